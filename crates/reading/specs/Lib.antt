@@ -1,0 +1,5 @@
+pub mod Faults
+pub mod Items
+pub mod Tally
+pub mod Verdict
+pub mod Layout

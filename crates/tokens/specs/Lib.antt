@@ -1,0 +1,4 @@
+pub mod Numbers
+pub mod Cells
+pub mod Tokens
+pub mod Listed
