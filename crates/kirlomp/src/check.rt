@@ -13,8 +13,9 @@ use scanning::ScanFault;
 use scanning::scanner::Scanner;
 use std::alloc::AllocError;
 use std::alloc::Global;
-use std::fs;
+use std::fs::File;
 use std::io;
+use std::io::Read;
 
 // The most bytes of a word that a message shows.
 const SHOWN: usize = 40;
@@ -55,12 +56,18 @@ fn byte_at(text: &[u8], place: Place) -> u8 {
 // What is wrong, in plain words.
 fn words_of(heap: Global, text: &[u8], fault: ReadFault) -> Result<String, AllocError> {
     match fault {
-        ReadFault::Scan(ScanFault::TooLong) => String::from_str(heap, "the list is longer than 16384 bytes"),
+        ReadFault::Scan(ScanFault::TooLong) => String::from_str(
+            heap,
+            "the list is longer than 16384 bytes",
+        ),
         ReadFault::Scan(ScanFault::Byte(place)) => {
             let byte = byte_at(text, place);
             format!(heap, "the byte {byte} may stand in comments only")
         }
-        ReadFault::Scan(ScanFault::Unclosed(_)) => String::from_str(heap, "this comment is not closed"),
+        ReadFault::Scan(ScanFault::Unclosed(_)) => String::from_str(
+            heap,
+            "this comment is not closed",
+        ),
         ReadFault::Unlisted(place) => {
             let word = word_at(heap, text, place)?;
             format!(heap, "{word} is no token of the language")
@@ -80,7 +87,10 @@ fn report(rt: &LibcRuntime, file: &str, text: &[u8], fault: ReadFault) -> io::Re
     let cause = fault.cause();
     let layer = fault.layer().name();
     let words = words_of(heap, text, fault)?;
-    println!(rt, "{file}:{line}:{column}: refused by {cause} ({layer}): {words}")?;
+    println!(
+        rt,
+        "{file}:{line}:{column}: refused by {cause} ({layer}): {words}"
+    )?;
     if line == 0 {
         return Ok(());
     }
@@ -104,8 +114,15 @@ fn check_text(rt: &LibcRuntime, file: &str, text: &[u8]) -> io::Result<bool> {
     }
 }
 
+// A file's bytes; of one that is too long, enough to see that it is.
+fn text_of(rt: &LibcRuntime, file: &str) -> io::Result<Vec<u8>> {
+    let mut bytes = Vec::new(rt.alloc());
+    File::open(rt, file)?.take(16385).read_to_end(&mut bytes)?;
+    Ok(bytes)
+}
+
 fn check_file(rt: &LibcRuntime, file: &str) -> io::Result<bool> {
-    match fs::read(rt, file) {
+    match text_of(rt, file) {
         Ok(text) => check_text(rt, file, text.as_slice()),
         Err(e) => {
             eprintln!(rt, "{file}: cannot be read: {e}")?;

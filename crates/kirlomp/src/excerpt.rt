@@ -4,6 +4,7 @@ use std::alloc::Global;
 
 // How much of a long line is shown, and how much of that before the column.
 const WIDTH: usize = 100;
+
 const BEFORE: usize = 60;
 
 // Bytes as text on a terminal: what is no text, and control characters other than tabs, become `?`.
@@ -49,11 +50,18 @@ pub fn mark_line(heap: Global, line: &[u8], column: usize) -> Result<(String, St
     let line = trimmed(line);
     let column = column.min(line.len());
     let from = if column > BEFORE { column - BEFORE } else { 0 };
-    let end = if line.len() - from > WIDTH { from + WIDTH } else { line.len() };
+    let end = if line.len() - from > WIDTH {
+        from + WIDTH
+    } else {
+        line.len()
+    };
     let front = if from > 0 { "..." } else { "" };
     let back = if end < line.len() { "..." } else { "" };
     let shown = excerpt(heap, &line[from..end])?;
     let space = blanks(heap, &line[from..column])?;
     let indent = if from > 0 { "   " } else { "" };
-    Ok((format!(heap, "{front}{shown}{back}")?, format!(heap, "{indent}{space}^")?))
+    Ok((
+        format!(heap, "{front}{shown}{back}")?,
+        format!(heap, "{indent}{space}^")?,
+    ))
 }

@@ -1,6 +1,7 @@
 // Reads a whole list: its tokens, each at its place, or the one fault that the rules give.
 ghost use mathlib.Core.Path.{_≡_};
 ghost use Prim.Native.Nat.{_≤_, _<_};
+ghost use lib.ListN.{length};
 ghost use Rattle.scanning.specs.Scan.{scanOf};
 ghost use Rattle.reading.specs.Faults.{cause-of, layer-of, place-of};
 ghost use Rattle.reading.specs.Items.{item, shown, spot, tokenAt, blank-item, readOf, written, Left};
@@ -202,6 +203,7 @@ fn fill<'a>(text: &'a [u8], memory: &mut [Placed<'a>]) -> Result<usize, ReadFaul
 pub fn read<'a>(text: &'a [u8], memory: &mut [Placed<'a>; 2048]) -> Result<usize, ReadFault>
     ensures is { λ r. ⌜ written (now (memory .exit)) r ≡ readOf (now (text .entry)) ⌝ }
     ensures left { λ r. ⌜ Left (now (memory .exit)) (now (memory .entry)) r ⌝ }
+    ensures size { λ _. ⌜ length (now (memory .exit)) ≡ 2048 ⌝ }
     ensures verdict { λ r. ⌜ Verdict (now (text .entry)) (written (now (memory .exit)) r) ⌝ }
     ensures one { λ _. ⌜ One-verdict (now (text .entry)) ⌝ }
     ensures placed { λ r. ⌜ All-in-place (now (text .entry)) (written (now (memory .exit)) r) ⌝ }

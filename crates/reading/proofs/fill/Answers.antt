@@ -14,7 +14,7 @@ use Rattle.reading.proofs.fill.Needs.{In-Some, at·loop-word-again, at·return
 turn : (c : In-Some) → Turn (c .args .text .now) (c .loop-word .n) (c .loop-word .scanner .here) (c .next-word .last .self .here) (spotOf (c .in-Some .word))
 turn c =
     turned (c .args .text .now) (c .loop-word .scanner .text .now) (c .next-word .last .self .text .now) (c .loop-word .n) (c .loop-word .scanner .here) (c .next-word .last .self .here) (c .next-word .result) (c .in-Some .word)
-        (c .in-Continue-word .was tt ∙ ap Ok (c .in-Some .is)) (c .loop-word .inv .0) (ap (λ t. t .now) (c .next-word .ensures .same)) (c .next-word .ensures .goes) (c .next-word .ensures .is) (c .next-word .last .self .ok .0) (c .loop-word .inv .1)
+    (c .in-Continue-word .was tt ∙ ap Ok (c .in-Some .is)) (c .loop-word .inv .0) (ap (λ t. t .now) (c .next-word .ensures .same)) (c .next-word .ensures .goes) (c .next-word .ensures .is) (c .next-word .last .self .ok .0) (c .loop-word .inv .1)
 
 pub returns-then-n-memory : need.returns-then-n-memory
 returns-then-n-memory c ts whole fits =
@@ -22,7 +22,7 @@ returns-then-n-memory c ts whole fits =
     let n = c .loop-word .n in
     let row = c .loop-word .memory in
     let long = no-room (map item (take n row)) (spot (c .in-Some .word)) (leftOf (c .args .text .now) (n + 1) (c .next-word .last .self .here)) ts
-        (ap (λ r. before (map item (take n row)) (judgedAll r)) (sym (turn i .more)) ∙ c .loop-word .inv .3 ∙ whole) in
+    (ap (λ r. before (map item (take n row)) (judgedAll r)) (sym (turn i .more)) ∙ c .loop-word .inv .3 ∙ whole) in
     absurd (omega (arith, row-length n row (c .loop-word .inv .2)))
 
 pub loop-word-again : need.loop-word-again

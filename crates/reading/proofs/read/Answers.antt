@@ -22,6 +22,7 @@ returns-in-Break-judge c =
     record {
       is = is;
       left = subst (Left old old) (sym (e .1)) refl;
+      size = c .told-memory;
       verdict = judged;
       one = one-verdict text;
       placed = all-in-place text (written old (c .from-residual .result)) judged;
@@ -38,6 +39,7 @@ returns c =
     record {
       is = is;
       left = f .left;
+      size = omega arith;
       verdict = judged;
       one = one-verdict text;
       placed = all-in-place text (written (c .fill .last .memory) (c .fill .result)) judged;
