@@ -2,6 +2,8 @@
 ghost use Rattle.acceptance.specs.Samples.{Samples};
 
 #[cfg(test)]
+mod shapes;
+#[cfg(test)]
 mod values;
 #[cfg(test)]
 mod verdicts;

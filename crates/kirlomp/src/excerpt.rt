@@ -8,7 +8,7 @@ const WIDTH: usize = 100;
 const BEFORE: usize = 60;
 
 // Bytes as text on a terminal: what is no text, and control characters other than tabs, become `?`.
-pub fn excerpt(heap: Global, bytes: &[u8]) -> Result<String, AllocError> {
+pub(crate) fn excerpt(heap: Global, bytes: &[u8]) -> Result<String, AllocError> {
     let text = String::from_utf8_lossy(heap, bytes)?;
     let mut shown = String::new(heap);
     for c in text.as_str().chars() {
@@ -46,7 +46,11 @@ fn trimmed(line: &[u8]) -> &[u8] {
 }
 
 // The line and, under the byte at `column`, a mark. Of a long line the part around the mark is shown.
-pub fn mark_line(heap: Global, line: &[u8], column: usize) -> Result<(String, String), AllocError> {
+pub(crate) fn mark_line(
+    heap: Global,
+    line: &[u8],
+    column: usize,
+) -> Result<(String, String), AllocError> {
     let line = trimmed(line);
     let column = column.min(line.len());
     let from = if column > BEFORE { column - BEFORE } else { 0 };

@@ -51,7 +51,7 @@ fn line_length(text: &[u8], from: usize) -> usize
 }
 
 // A line, without its line feed.
-pub fn line_of(text: &[u8], line: u32) -> &[u8]
+pub(crate) fn line_of(text: &[u8], line: u32) -> &[u8]
     ensures { λ r. ⌜ now r ≡ lineOf line (now (text .entry)) ⌝ }
 {
     let start = line_start(text, line);
@@ -60,7 +60,7 @@ pub fn line_of(text: &[u8], line: u32) -> &[u8]
 }
 
 // A column as an index into its line, or behind the line's end.
-pub fn column_in(line: &[u8], column: u32) -> usize
+pub(crate) fn column_in(line: &[u8], column: u32) -> usize
     ensures { λ r. ⌜ r ≡ min (column - 1) (length (now (line .entry))) ⌝ }
 {
     let index = column.saturating_sub(1) as usize;

@@ -1,7 +1,8 @@
-// The command line: reads lists and says of each that it is read, or what is refused, why and where.
+// The command line: checks lists and says of each that it is well formed, or what is refused, why and where.
 mod check;
 mod excerpt;
 mod lines;
+mod message;
 
 use check::check_files;
 use std::alloc::AllocError;
@@ -13,7 +14,7 @@ use std::io;
 const USAGE: &str = "usage: kirlomp check FILE..
        kirlomp help
 
-check   reads each list and prints 'FILE: read, N tokens', or the first fault as
+check   checks each list and prints 'FILE: well formed, N modules', or its fault as
         'FILE:LINE:COLUMN: refused by CAUSE (LAYER): WORDS' with the line and a mark
         under the column. The exit status is 1 if a list was refused or a file could
         not be read, else 0.
@@ -45,8 +46,8 @@ fn command_of(heap: Global, mut args: env::Args) -> Result<Command, AllocError> 
 }
 
 // An `Err` that says nothing more: all has been printed.
-fn ended(all_read: bool) -> Result<(), AnyError> {
-    if all_read {
+fn ended(all_well: bool) -> Result<(), AnyError> {
+    if all_well {
         Ok(())
     } else {
         Err("refused".into())

@@ -1,0 +1,11 @@
+pub mod Tables
+pub mod Trees
+pub mod Nesting
+pub mod Counts
+pub mod Verdicts
+pub mod Acts
+pub mod Tops
+pub mod Turns
+pub mod Ends
+pub mod Whole
+pub mod Existence
