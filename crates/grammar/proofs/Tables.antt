@@ -18,8 +18,8 @@ use Rattle.grammar.specs.declared.table.Block.the-variants.{Body, Branch as In
 use Rattle.grammar.specs.declared.table.Want.{Want}
 use Rattle.grammar.specs.declared.table.Want.the-variants.{Modules, Commands, First, Rest, Operand as Operand!, Comparand as Comparand! }
 use Rattle.grammar.specs.declared.table.Move.{Move}
-use Rattle.grammar.specs.Grammar.{Load, number-loaded, bit-loaded, word-loaded, bracket-loaded, Ops, no-more, apply-then, Operand, number-taken, bit-taken, word-taken, bracket-taken, Act, bit-stored, word-stored, switched, called, Comparand, with-number, with-word, Test, bit-tested, compared, Command, loading, applying, acting, choosing, Cmds, done, and-then, Alternative, no-else, else-do, Module, module-of, closing, spell-load, spell-ops, spell-operand, spell-act, spell-comparand, spell-test, spell-command, spell-cmds, spell-alternative, spell-module, spell-modules, spell, Text, Begins}
-use Rattle.grammar.specs.Machine.{ending, class-of, ender, Tail, spell-tail, Tree, spell-tree, Forest, spell-forest, Back, applied, Fits, keeps, fills-first, fills-operand, fills-comparand, begins, nests-first, nests-operand, operates, operates-rest, unnests, enters, tests, compares, turns, leaves-then, leaves-otherwise, finishes, rule-of, Entry, moved, step, then-run, run, start}
+use Rattle.grammar.specs.Grammar.{Load, number-loaded, bit-loaded, word-loaded, bracket-loaded, Ops, no-more, apply-then, Operand, number-taken, bit-taken, word-taken, bracket-taken, Act, bit-stored, word-stored, switched, called, with-number, with-word, Test, bit-tested, compared, Command, loading, applying, acting, choosing, Cmds, done, and-then, Alternative, no-else, else-do, Module, module-of, closing, spell-load, spell-ops, spell-operand, spell-act, spell-test, spell-command, spell-cmds, spell-alternative, spell, Text, Begins}
+use Rattle.grammar.specs.Machine.{ending, class-of, ender, Tail, Tree, Forest, spell-forest, applied, keeps, fills-first, fills-operand, fills-comparand, begins, nests-first, nests-operand, operates, operates-rest, unnests, enters, tests, compares, turns, leaves-then, leaves-otherwise, finishes, rule-of, Entry, moved, step, then-run, run, start}
 
 -- a module's ending, as a token
 pub ends-so : (n : ℕ) → closing n ≡ ender (ending n)

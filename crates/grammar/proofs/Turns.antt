@@ -2,7 +2,7 @@
 use mathlib.Core.Path.{_≡_, refl, sym, ap, ap₂, subst, _∙_}
 use mathlib.Core.Bool.{Bool, true, false, cond}
 use mathlib.Core.List.{List, [], _∷_}
-use Prim.Native.Nat.{ℕ, _+_, _<_, _≤_}
+use Prim.Native.Nat.{ℕ, _+_, _<_}
 use native.Mathlib.Omega.{arith}
 use lib.ListN.{length, getD, take}
 use borrow.Author.Count.{below-more}
@@ -24,7 +24,7 @@ use Rattle.grammar.specs.declared.table.Want.the-variants.{Modules}
 use Rattle.grammar.specs.declared.table.Move.{Move}
 use Rattle.grammar.specs.Grammar.{Text, Begins}
 use Rattle.grammar.specs.Limits.{role, brackets-after, conditions-after, modules-after, open-brackets, open-conditions, begun-modules, room-for, Within-limits}
-use Rattle.grammar.specs.Machine.{class-of, rule-of, role-of, applied, moved, run, then-run, start, Entry}
+use Rattle.grammar.specs.Machine.{class-of, rule-of, applied, moved, run, then-run, start, Entry}
 use Rattle.grammar.specs.Parsing.{wants-of, head-of, tail-from, fresh, branches-after, state-after, has-room, made-or-full, Ready, Sofar}
 use Rattle.grammar.specs.Verdict.{kind-of, kinds, Stops, Exceeds}
 use Rattle.grammar.proofs.Tables.{entry, run-append, text-of-run, run-of-text, begins-of-run, run-of-begins}

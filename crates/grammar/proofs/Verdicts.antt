@@ -1,13 +1,12 @@
 -- The verdict on a text is one alone. Assumes nothing.
-use mathlib.Core.Path.{_≡_, refl, sym, ap, subst, _∙_}
-use mathlib.Core.List.{List, [], _++_, append-nil, append-assoc, map}
+use mathlib.Core.Path.{_≡_, sym, ap, subst, _∙_}
+use mathlib.Core.List.{List, [], _++_, append-nil, append-assoc}
 use mathlib.Core.Logic.{⊎-elim}
 use Prim.Native.Nat.{ℕ, _+_, _<_, _≤_}
 use native.Mathlib.Omega.{arith}
 use lib.ListN.{length, take, drop, take-append-drop}
 use Rattle.std.proofs.shelf.Lists.{take-take, take-all}
 use Rattle.std.proofs.shelf.Tests.{cases-order}
-use Rattle.std.specs.declared.result.Result.{Result}
 use Rattle.std.specs.declared.result.Result.the-variants.{Ok, Err}
 use Rattle.faults.specs.declared.Place.{Place}
 use Rattle.tokens.specs.Tokens.{Kind}
@@ -15,12 +14,11 @@ use Rattle.reading.specs.declared.ReadFault.{ReadFault}
 use Rattle.reading.specs.Items.{Item}
 use Rattle.reading.specs.Verdict.{Verdict as Read}
 use Rattle.reading.proofs.Verdicts.{one-verdict as one-reading}
-use Rattle.grammar.specs.declared.GrammarFault.{GrammarFault}
 use Rattle.grammar.specs.declared.GrammarFault.the-variants.{Reading, Unexpected, TooDeep}
 use Rattle.grammar.specs.declared.Shape.{Shape}
 use Rattle.grammar.specs.Grammar.{Text, Begins}
 use Rattle.grammar.specs.Limits.{Within-limits}
-use Rattle.grammar.specs.Verdict.{kinds, place-at, Stops, Exceeds, Accepted, Refused, Verdict, One-verdict}
+use Rattle.grammar.specs.Verdict.{kinds, place-at, Stops, Exceeds, Accepted, Refused, One-verdict}
 use Rattle.grammar.proofs.Trees.{one-tree}
 
 -- 1. what is one alone for a list of tokens

@@ -1,11 +1,10 @@
 -- From what is read and parsed to the verdict on a text. Assumes nothing.
-use mathlib.Core.Path.{_≡_, refl, sym, ap, subst, _∙_}
+use mathlib.Core.Path.{_≡_, sym, ap, subst, _∙_}
 use mathlib.Core.List.{List, map}
-use Prim.Native.Nat.{ℕ, _<_, _≤_}
+use Prim.Native.Nat.{ℕ}
 use native.Mathlib.Omega.{arith}
-use lib.ListN.{length, getD, take, drop}
+use lib.ListN.{length, take, drop}
 use Rattle.std.proofs.shelf.Lists.{take-all, getD-map, getD-past, length-map}
-use Rattle.std.specs.declared.result.Result.{Result}
 use Rattle.std.specs.declared.result.Result.the-variants.{Ok, Err}
 use Rattle.faults.specs.declared.Place.{Place}
 use Rattle.tokens.specs.Tokens.{Kind}
@@ -17,14 +16,13 @@ use Rattle.reading.specs.Verdict.{Verdict as Read}
 use Rattle.reading.proofs.Verdicts.{one-verdict as one-reading}
 use Rattle.grammar.specs.declared.GrammarFault.{GrammarFault}
 use Rattle.grammar.specs.declared.GrammarFault.the-variants.{Reading, Unexpected, TooDeep}
-use Rattle.grammar.specs.declared.Shape.{Shape}
 use Rattle.grammar.specs.declared.state.State.{State}
 use Rattle.grammar.specs.declared.table.Branch.{Branch}
 use Rattle.grammar.specs.declared.table.Want.{Want}
 use Rattle.grammar.specs.declared.table.Want.the-variants.{Modules}
 use Rattle.grammar.specs.Limits.{begun-modules}
 use Rattle.grammar.specs.Parsing.{wants-of, head-of, Sofar, At-fault, Parsed}
-use Rattle.grammar.specs.Verdict.{kind-of, kinds, place-at, Stops, Refused, Verdict, Holds, Memory-after}
+use Rattle.grammar.specs.Verdict.{kind-of, kinds, Refused, Verdict, Holds, Memory-after}
 use Rattle.grammar.proofs.Counts.{modules-counted}
 use Rattle.grammar.proofs.Turns.{whole, cut-short}
 

@@ -1,6 +1,6 @@
 // The grammar of the list language: whether a text is a list of modules, and where not, the first fault.
 ghost use mathlib.Core.Path.{_≡_};
-ghost use mathlib.Core.List.{List, [], map};
+ghost use mathlib.Core.List.{[], map};
 ghost use Prim.Native.Nat.{_<_, _≤_};
 ghost use lib.ListN.{length, getD};
 ghost use Rattle.scanning.specs.Text.{longest, start, walk};

@@ -12,7 +12,8 @@ pub enum Ending {
     Level1,
 }
 
-// Tokens by their part in the grammar. A label is known by the ending of its module.
+// Tokens by their part in the grammar. A label is known by the ending of its module; `Unplaced` has no part, and no text
+// that is read has such a token.
 #[derive(Clone, Copy)]
 pub enum Class {
     Unplaced,

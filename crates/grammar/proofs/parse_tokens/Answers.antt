@@ -1,4 +1,4 @@
-use mathlib.Core.Path.{_≡_, ap, subst, _∙_}
+use mathlib.Core.Path.{_≡_, subst, _∙_}
 use mathlib.Core.List.{map}
 use Prim.Native.Nat.{_<_}
 use native.Mathlib.Omega.{arith}
@@ -6,7 +6,7 @@ use lib.ListN.{length, getD}
 use Rattle.std.specs.declared.option.Option.the-variants.{Some}
 use Rattle.std.proofs.shelf.Lists.{length-map}
 use Rattle.tokens.specs.Tokens.{bracket-opens}
-use Rattle.reading.specs.Items.{Item, item}
+use Rattle.reading.specs.Items.{item}
 use Rattle.stack.specs.Entries.{entries}
 use Rattle.grammar.specs.Machine.{class-of, rule-of}
 use Rattle.grammar.specs.Parsing.{head-of, wants-of, Sofar}
