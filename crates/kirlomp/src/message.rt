@@ -7,7 +7,7 @@ use faults::PlacePartialEq;
 use grammar::GrammarFault;
 use reading::ReadFault;
 use scanning::ScanFault;
-use scanning::scanner::Scanner;
+use scanning::Scanner;
 use std::alloc::AllocError;
 use std::alloc::Global;
 

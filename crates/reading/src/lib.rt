@@ -18,12 +18,12 @@ use scanning::ScanFault;
 use scanning::ScanFaultDebug;
 use scanning::ScanFaultEq;
 use scanning::ScanFaultPartialEq;
+use scanning::Scanner;
 use scanning::Word;
-use scanning::scanner::Scanner;
 use tokens::Token;
 use tokens::TokenDebug;
 use tokens::WordFault;
-use tokens::words::classify;
+use tokens::classify;
 
 // A token at its place.
 #[derive(Clone, Copy, Debug)]

@@ -10,11 +10,11 @@ ghost use Rattle.scanning.specs.declared.Mode.the-variants.{Between};
 
 pub mod scanner;
 
-use crate::scanner::Scanner;
 use faults::Place;
 use faults::PlaceDebug;
 use faults::PlaceEq;
 use faults::PlacePartialEq;
+pub use scanner::Scanner;
 
 // How far a text is read: the next byte's index, and its place.
 #[derive(Clone, Copy, Debug)]

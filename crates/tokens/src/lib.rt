@@ -3,6 +3,8 @@ pub mod cells;
 pub mod numbers;
 pub mod words;
 
+pub use words::classify;
+
 // Why a word is no token: none is written so, or only the values of decimal digits are wrong.
 #[derive(Clone, Copy, Debug, PartialEq, Eq)]
 pub enum WordFault {
