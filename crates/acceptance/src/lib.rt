@@ -1,4 +1,6 @@
 // Samples of the language with their answers: a proved table, and longer tables as tests.
+#![tactic(auto)]
+
 ghost use Rattle.acceptance.specs.Samples.{Samples};
 
 #[cfg(test)]

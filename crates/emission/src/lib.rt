@@ -1,4 +1,6 @@
 // The code of a list, made from its tokens in one pass: one instruction for each step, skips found by a look ahead.
+#![tactic(auto)]
+
 ghost use Rattle.std.specs.Prelude.{◌≡◌, ◌+◌, ◌<◌, ◌≤◌, ◌++◌, length, drop, slice_index_or};
 ghost use Rattle.tokens.specs.Tokens.{bracket_opens, lexeme};
 ghost use Rattle.grammar.specs.Verdict.{kinds_of};

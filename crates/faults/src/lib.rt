@@ -1,4 +1,6 @@
 // What every fault of the compiler names besides its cause: the layer that refuses, and a place in the text.
+#![tactic(auto)]
+
 ghost use Rattle.std.specs.Prelude.{◌≡◌};
 ghost use Rattle.faults.specs.Layers.{layer_name};
 

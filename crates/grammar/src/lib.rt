@@ -1,4 +1,6 @@
 // The grammar of the list language: whether a text is a list of modules, and where not, the first fault.
+#![tactic(auto)]
+
 ghost use Rattle.std.specs.Prelude.{◌≡◌, ◌<◌, ◌≤◌, [], map, length, get_or, slice_index_or};
 ghost use Rattle.scanning.specs.Text.{longest, start, walk};
 ghost use Rattle.reading.specs.Items.{item, blank_item};

@@ -1,4 +1,6 @@
 // The command line: checks lists and says of each that it is well formed, or what is refused, why and where.
+#![tactic(auto)]
+
 mod check;
 mod excerpt;
 mod lines;

@@ -1,5 +1,7 @@
 // The command line: checks lists and tapes and says of each that it is accepted, or what is refused, why and where; shows lists step by
 // step; makes tapes.
+#![tactic(auto)]
+
 mod check;
 mod commands;
 mod excerpt;

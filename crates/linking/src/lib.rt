@@ -1,4 +1,6 @@
 // Linking: whether a list keeps the rules for labels, calls, levels and figures, and the record of a list that does.
+#![tactic(auto)]
+
 ghost use Rattle.std.specs.Prelude.{◌≡◌};
 ghost use Rattle.linking.specs.Faults.{cause_of, layer_of, place_of};
 ghost use Rattle.linking.specs.declared.LinkFault.TheVariants.{Grammar};

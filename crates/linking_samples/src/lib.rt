@@ -1,4 +1,6 @@
 // Samples of linking with their answers: a proved table, and longer tables as tests.
+#![tactic(auto)]
+
 ghost use Rattle.linking_samples.specs.Samples.{LinkedSamples};
 
 #[cfg(test)]

@@ -1,4 +1,6 @@
 // Texts with their verdicts: figures, or cause, layer and place.
+#![tactic(auto)]
+
 #[cfg(test)]
 mod built;
 #[cfg(test)]

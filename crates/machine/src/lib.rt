@@ -1,5 +1,7 @@
 // The interval machine that a controller is held to, and the laws of its histories. The crate has definitions and theorems;
 // its functions have no result, their promises are the theorems.
+#![tactic(auto)]
+
 ghost use Rattle.machine.specs.Claims.{MachineIsLawful, Goes_on, IntervalsGo};
 ghost use Rattle.machine.specs.Lists.{ListsBounded};
 ghost use Rattle.machine.specs.Example.{WorkedRun};

@@ -1,4 +1,6 @@
 // What a list means, step by step, and passes of compiled lists that do what the list means.
+#![tactic(auto)]
+
 ghost use Rattle.meaning.specs.Example.{ExamplesStand};
 
 pub use pass::Pass;

@@ -1,4 +1,6 @@
 // A panel of input and output words: what every panel promises, a bench panel, and the reads and puts of an interval.
+#![tactic(auto)]
+
 ghost use Rattle.std.specs.Prelude.{◌≡◌, ℕ, List, []};
 ghost use Rattle.panel.specs.Answers.{index_of, read_of, put_answer};
 ghost use Rattle.panel.specs.Faults.{cause_of, layer_of, place_of};

@@ -1,4 +1,6 @@
 // Tables of benches and tapes with their answers.
+#![tactic(auto)]
+
 #[cfg(test)]
 mod benches;
 #[cfg(test)]

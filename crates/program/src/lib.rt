@@ -1,4 +1,6 @@
 // The instructions that a list is compiled to, one for each step, and the machine that runs them.
+#![tactic(auto)]
+
 pub use cpu::Cpu;
 pub use record::Program;
 pub use sight::Sight;

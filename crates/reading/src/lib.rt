@@ -1,4 +1,6 @@
 // Reads a whole list: its tokens, each at its place, or the one fault that the rules give.
+#![tactic(auto)]
+
 ghost use Rattle.std.specs.Prelude.{◌≡◌, ◌<◌, ◌≤◌, length};
 ghost use Rattle.scanning.specs.Scan.{scan_of};
 ghost use Rattle.reading.specs.Faults.{cause_of, layer_of, place_of};

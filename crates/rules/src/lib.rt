@@ -1,5 +1,7 @@
 // The linking rules of a list: labels, calls, and what each of the two levels may do. They are asked of the tokens of any
 // text, in whatever order.
+#![tactic(auto)]
+
 ghost use Rattle.std.specs.Prelude.{◌≡◌, ◌<◌, ◌≤◌, length, Decides};
 ghost use Rattle.rules.specs.Findings.{Found, OneFinding};
 ghost use Rattle.rules.specs.Labels.{kinds_of, kind_at, IsLabel, Labelled, Repeats, Unlinked};

@@ -1,4 +1,6 @@
 // Cuts a text into words, past white space and comments.
+#![tactic(auto)]
+
 ghost use Rattle.std.specs.Prelude.{◌≡◌, ◌+◌, ◌<◌, ◌≤◌, length, drop, IfOk, slice_index};
 ghost use Rattle.scanning.specs.Text.{longest, past, in_run};
 ghost use Rattle.scanning.specs.Pieces.{OneVerdict};

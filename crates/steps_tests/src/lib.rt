@@ -1,4 +1,6 @@
 // Lists with what their passes do: OP, bytes, timers and steps.
+#![tactic(auto)]
+
 #[cfg(test)]
 mod brackets;
 #[cfg(test)]

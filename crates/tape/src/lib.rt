@@ -1,4 +1,6 @@
 // A panel whose inputs are read from the lines of a tape.
+#![tactic(auto)]
+
 ghost use Rattle.std.specs.Prelude.{◌≡◌, ◌+◌, ◌*◌, ◌/◌, ◌<◌, ◌≤◌, length, slice_index_or};
 ghost use Rattle.tape.specs.Faults.{cause_of, layer_of, place_of};
 ghost use Rattle.tape.specs.Says.{first_bad, check_of, opened, shown, state, moved, said, tape_meaning, tape_rest};

@@ -1,4 +1,6 @@
 // The tokens of the list language: what a word of the source is.
+#![tactic(auto)]
+
 pub mod cells;
 pub mod numbers;
 pub mod words;

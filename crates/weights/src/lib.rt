@@ -1,4 +1,6 @@
 // The figure and the longest chain of calls of compiled code, each by one walk from the end of the code up.
+#![tactic(auto)]
+
 ghost use Rattle.std.specs.Prelude.{◌≡◌, ℕ, ◌<◌, min, length, slice_index};
 ghost use Rattle.weights.specs.Ahead.{ahead};
 ghost use Rattle.weights.specs.Chains.{LongestChain};

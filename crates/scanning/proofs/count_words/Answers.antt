@@ -6,10 +6,10 @@ use Rattle.scanning.proofs.count_words.Goals as goal
 
 pub loop-word-preserved : goal.loop-word-preserved
 loop-word-preserved c =
-    let new = c.next-word.new.self in
-    let came = c.in-ok--word.was ∙ ap Ok c.in-Some.is in
-    let call = c.next-word.ensures in
-    counting_more c.args.text.now c.loop-word.scanner.text.now new.text.now c.loop-word.n c.loop-word.scanner.here new.here c.next-word.result c.in-Some.-word c.loop-word.invariant (ap (λ t. t.now) call.same) came call.is call.goes new.ok.0
+    let new = c.next_word.new.self in
+    let came = c.in_ok-_word.was ∙ ap Ok c.in-Some.is in
+    let call = c.next_word.ensures in
+    counting_more c.args.text.now c.loop-word.scanner.text.now new.text.now c.loop-word.n c.loop-word.scanner.here new.here c.next_word.result c.in-Some._word c.loop-word.invariant (ap (λ t. t.now) call.same) came call.is call.goes new.ok.0
 
 pub returns-in-err--word : goal.returns-in-err--word
 returns-in-err--word c =

@@ -7,7 +7,7 @@ use Rattle.scanning.proofs.run_len.Goals as goal
 
 pub loop-end-preserved : goal.loop-end-preserved
 loop-end-preserved c =
-    let e = ap (in_run (get_or c.args.text.now c.loop-end.end 0)) (sym c.byte-at.ensures) ∙ sym c.in-run.ensures ∙ c.if-not-in-run.false in
+    let e = ap (in_run (get_or c.args.text.now c.loop-end.end 0)) (sym c.byte_at.ensures) ∙ sym c.in_run.ensures ∙ c.if-not-in_run.false in
     let h = run_more c.args.text.now c.loop-end.end c.loop-end-test.true e in
     (omega arith, omega arith, omega arith)
 

@@ -7,7 +7,7 @@ use Rattle.scanning.proofs.skip.Goals as goal
 pub returns-in-None : goal.returns-in-None
 returns-in-None c =
     let f = mode_after c.loop-at.mode c.loop-at.place (get_or c.args.text.now c.loop-at.at 0) in
-    let e = ap f (sym c.byte-at.ensures) ∙ sym c.mode-after.ensures ∙ c.in-None.is in
+    let e = ap f (sym c.byte_at.ensures) ∙ sym c.mode_after.ensures ∙ c.in-None.is in
     record {
       is = sym (skip_stops _ _ c.args.text.now _ c.loop-at-test.true e) ∙ c.loop-at.invariant.3;
       within = (c.loop-at.invariant.2, (c.loop-at.invariant.0, c.loop-at.invariant.1));
@@ -16,8 +16,8 @@ returns-in-None c =
 pub loop-at-preserved : goal.loop-at-preserved
 loop-at-preserved c =
     let f = mode_after c.loop-at.mode c.loop-at.place (get_or c.args.text.now c.loop-at.at 0) in
-    let e = ap f (sym c.byte-at.ensures) ∙ sym c.mode-after.ensures ∙ c.in-Some.is in
-    let at_next = c.place-past-place.ensures in (
+    let e = ap f (sym c.byte_at.ensures) ∙ sym c.mode_after.ensures ∙ c.in-Some.is in
+    let at_next = c.place_past-place.ensures in (
       omega arith,
       subst (λ p. Reached p (c.loop-at.at + 1)) (sym at_next) (reached_more c.loop-at.place (get_or c.args.text.now c.loop-at.at 0) c.loop-at.at c.loop-at.invariant.1),
       omega arith,

@@ -15,29 +15,29 @@ returns-in-err-here c =
 
 pub returns-then-at-text : goal.returns-then-at-text
 returns-then-at-text c = record {
-  is = sym (next_end _ c.args.text.now _ c.if-at-text.true) ∙ ap next_at c.in-ok-here.ensures.is;
+  is = sym (next_end _ c.args.text.now _ c.if-at-text.true) ∙ ap next_at c.in_ok-here.ensures.is;
   goes = tt;
 }
 
 pub returns-then-n-eq0 : goal.returns-then-n-eq0
 returns-then-n-eq0 c = record {
   is =
-      sym (next_bad _ c.args.text.now _ c.if-at-text.false (sym c.word-len-n.ensures.is ∙ c.if-n-eq0.true))
-      ∙ ap next_at c.in-ok-here.ensures.is;
+      sym (next_bad _ c.args.text.now _ c.if-at-text.false (sym c.word_len-n.ensures.is ∙ c.if-n-eq0.true))
+      ∙ ap next_at c.in_ok-here.ensures.is;
   goes = tt;
 }
 
 pub returns : goal.returns
 returns c =
     let text = c.args.text.now in
-    let at = c.in-ok-here.here.at in
-    let here = c.in-ok-here.here.place in
-    let n = c.word-len-n.result in
-    let t = c.in-ok-here.ensures.within in
+    let at = c.in_ok-here.here.at in
+    let here = c.in_ok-here.here.place in
+    let n = c.word_len-n.result in
+    let t = c.in_ok-here.ensures.within in
     let same : at + n - at ≡ n = omega arith in
     record {
       is = ap (λ k. found here (take k (drop at text)) (across here n) (drop (at + n) text)) same
-          ∙ sym (next_word here text at n c.if-at-text.false c.word-len-n.ensures.is c.if-n-eq0.false)
-          ∙ ap next_at c.in-ok-here.ensures.is;
-      goes = (omega (arith, t), (omega (arith, t, c.word-len-n.ensures.within), (omega (arith, t), omega (arith, t))));
+          ∙ sym (next_word here text at n c.if-at-text.false c.word_len-n.ensures.is c.if-n-eq0.false)
+          ∙ ap next_at c.in_ok-here.ensures.is;
+      goes = (omega (arith, t), (omega (arith, t, c.word_len-n.ensures.within), (omega (arith, t), omega (arith, t))));
     }
