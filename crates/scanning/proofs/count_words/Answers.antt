@@ -11,10 +11,10 @@ loop-word-preserved c =
     let call = c.next_word.ensures in
     counting_more c.args.text.now c.loop-word.scanner.text.now new.text.now c.loop-word.n c.loop-word.scanner.here new.here c.next_word.result c.in-Some._word c.loop-word.invariant (ap (λ t. t.now) call.same) came call.is call.goes new.ok.0
 
-pub returns-in-err--word : goal.returns-in-err--word
-returns-in-err--word c =
+pub returns-in_err-_word : goal.returns-in_err-_word
+returns-in_err-_word c =
     let text = c.args.text.now in
-    let e : c.from-residual.result ≡ counted (scan_of text) = search rules in
+    let e : c.from_residual.result ≡ counted (scan_of text) = search rules in
     record { is = e; verdict = (scan_of text, e, verdict_of text); one = one_verdict text }
 
 pub returns : goal.returns

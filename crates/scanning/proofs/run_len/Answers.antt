@@ -11,9 +11,9 @@ loop-end-preserved c =
     let h = run_more c.args.text.now c.loop-end.end c.loop-end-test.true e in
     (omega arith, omega arith, omega arith)
 
-pub returns-then-not-in-run : goal.returns-then-not-in-run
-returns-then-not-in-run c =
-    let e = ap (in_run (get_or c.args.text.now c.loop-end.end 0)) (sym c.byte-at.ensures) ∙ sym c.in-run.ensures ∙ c.if-not-in-run.true in
+pub returns-then-not-in_run : goal.returns-then-not-in_run
+returns-then-not-in_run c =
+    let e = ap (in_run (get_or c.args.text.now c.loop-end.end 0)) (sym c.byte_at.ensures) ∙ sym c.in_run.ensures ∙ c.if-not-in_run.true in
     let h = run_stops c.args.text.now c.loop-end.end c.loop-end-test.true e in
     record { is = omega arith; within = omega arith }
 

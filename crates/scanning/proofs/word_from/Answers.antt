@@ -4,10 +4,10 @@ use Rattle.scanning.specs.Scan.{told, Goes, next_at, refused, found, across}
 use Rattle.scanning.proofs.Steps.{next_end, next_bad, next_word}
 use Rattle.scanning.proofs.word_from.Goals as goal
 
-pub returns-in-err-here : goal.returns-in-err-here
-returns-in-err-here c =
-    let p = err_from_is_err_and c.from-residual.result c.from-residual.ensures.1 in
-    let q = c.in-err-here.ensures in
+pub returns-in_err-here : goal.returns-in_err-here
+returns-in_err-here c =
+    let p = err_from_is_err_and c.from_residual.result c.from_residual.ensures.1 in
+    let q = c.in_err-here.ensures in
     record {
       is = ap (told c.args.text.now) p.1 ∙ ap refused p.2 ∙ ap next_at q.is;
       goes = subst (Goes c.args.text.now c.args.from.at) (sym p.1) tt;

@@ -6,5 +6,5 @@ use Rattle.scanning.proofs.word_len.Goals as goal
 pub returns-in-91 : goal.returns-in-91
 returns-in-91 c = record { is = grind (arith, nat_tests, first c.args.text.now c.args.at); within = omega arith }
 
-pub returns-in-default : goal.returns-in-default
-returns-in-default c = record { is = grind (arith, nat_tests, first c.args.text.now c.args.at); within = c.run-len.ensures.within }
+pub returns-in_default : goal.returns-in_default
+returns-in_default c = record { is = grind (arith, nat_tests, first c.args.text.now c.args.at); within = c.run_len.ensures.within }

@@ -21,10 +21,10 @@ pub returns-in-70 : goal.returns-in-70
 unfolding bit_of
 returns-in-70 c = grind (arith, nat_tests, take_rest c.args.part.now 1)
 
-pub returns-in-default : goal.returns-in-default
+pub returns-in_default : goal.returns-in_default
 unfolding bit_of
-returns-in-default c = search rules
+returns-in_default c = search rules
 
-pub returns-in-default·2 : goal.returns-in-default·2
+pub returns-in_default-2 : goal.returns-in_default-2
 unfolding bit_of value_of
-returns-in-default·2 c = search rules
+returns-in_default-2 c = search rules

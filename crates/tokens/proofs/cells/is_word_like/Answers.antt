@@ -12,6 +12,6 @@ pub returns-in-70 : goal.returns-in-70
 unfolding word_like
 returns-in-70 c = search rules
 
-pub returns-in-default : goal.returns-in-default
+pub returns-in_default : goal.returns-in_default
 unfolding word_like
-returns-in-default c = grind (arith, nat_tests, get_or_past c.args.part.now 0 0)
+returns-in_default c = grind (arith, nat_tests, get_or_past c.args.part.now 0 0)

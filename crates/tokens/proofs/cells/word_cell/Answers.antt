@@ -25,10 +25,10 @@ pub returns-in-84 : goal.returns-in-84
 unfolding word_of
 returns-in-84 c = grind (arith, nat_tests, take_rest c.args.part.now 1)
 
-pub returns-in-default : goal.returns-in-default
+pub returns-in_default : goal.returns-in_default
 unfolding word_of
-returns-in-default c = search rules
+returns-in_default c = search rules
 
-pub returns-in-default·2 : goal.returns-in-default·2
+pub returns-in_default-2 : goal.returns-in_default-2
 unfolding word_of value_of
-returns-in-default·2 c = search rules
+returns-in_default-2 c = search rules

@@ -7,18 +7,18 @@ use Rattle.tokens.specs.Numbers.{digit, between, value_after, value_of}
 use Rattle.tokens.proofs.Digits.{digit_small, more, small, value_more, value_stops}
 use Rattle.tokens.proofs.numbers.digits_value.Goals as goal
 
-pub overflow-mul-value : goal.overflow-mul-value
-overflow-mul-value c = omega (arith, small c.loop-b.value c.args.radix 0 c.loop-b.b-index c.loop-b.invariant.0 (omega arith) c.requires.0 (omega arith))
+pub overflow_mul-value : goal.overflow_mul-value
+overflow_mul-value c = omega (arith, small c.loop-b.value c.args.radix 0 c.loop-b.b-index c.loop-b.invariant.0 (omega arith) c.requires.0 (omega arith))
 
 -- the byte at hand is a digit
-one : (c : goal.In-ok-value) → digit c.args.radix (get_or c.args.part.now c.loop-b.b-index 0) ≡ Some c.in-ok-value.field-0
-one c = sym c.digit-value.ensures ∙ c.in-ok-value.was
+one : (c : goal.In_ok-value) → digit c.args.radix (get_or c.args.part.now c.loop-b.b-index 0) ≡ Some c.in_ok-value.field-0
+one c = sym c.digit_value.ensures ∙ c.in_ok-value.was
 
-low : (c : goal.In-ok-value) → c.in-ok-value.field-0 < 16
+low : (c : goal.In_ok-value) → c.in_ok-value.field-0 < 16
 low c = digit_small c.args.radix (get_or c.args.part.now c.loop-b.b-index 0) _ (one c)
 
-pub overflow-add-value : goal.overflow-add-value
-overflow-add-value c = omega (arith, small _ _ _ _ c.loop-b.invariant.0 (omega arith) c.requires.0 (low c))
+pub overflow_add-value : goal.overflow_add-value
+overflow_add-value c = omega (arith, small _ _ _ _ c.loop-b.invariant.0 (omega arith) c.requires.0 (low c))
 
 pub loop-b-preserved : goal.loop-b-preserved
 loop-b-preserved c = (
@@ -34,15 +34,15 @@ pub returns-then-part-least : goal.returns-then-part-least
 unfolding value_of
 returns-then-part-least c = record { is = grind (arith, nat_tests); small = c.requires.1 }
 
-pub returns-in-err-value : goal.returns-in-err-value
+pub returns-in_err-value : goal.returns-in_err-value
 unfolding value_of
-returns-in-err-value c = record {
+returns-in_err-value c = record {
   is =
-      c.from-residual.ensures
-      ∙ sym (value_stops _ _ _ _ c.loop-b-test.true (sym c.digit-value.ensures ∙ c.in-err-value.was))
+      c.from_residual.ensures
+      ∙ sym (value_stops _ _ _ _ c.loop-b-test.true (sym c.digit_value.ensures ∙ c.in_err-value.was))
       ∙ c.loop-b.invariant.1
       ∙ sym (cond-true _ _ _ (counted _ _ _ c.if-part-least.false c.if-part-most.false));
-  small = subst (λ r. MatchOption r (c.args.most ≤ 5) (λ v. v < 16 ^ c.args.most)) (sym c.from-residual.ensures) c.requires.1;
+  small = subst (λ r. MatchOption r (c.args.most ≤ 5) (λ v. v < 16 ^ c.args.most)) (sym c.from_residual.ensures) c.requires.1;
 }
 
 pub returns : goal.returns

@@ -8,6 +8,6 @@ pub returns-in-46 : goal.returns-in-46
 unfolding number_of
 returns-in-46 c = grind (arith, nat_tests, take_rest c.args.part.now 1)
 
-pub returns-in-default : goal.returns-in-default
+pub returns-in_default : goal.returns-in_default
 unfolding number_of
-returns-in-default c = search rules
+returns-in_default c = search rules

@@ -5,7 +5,7 @@ use Rattle.tokens.proofs.words.classify.Goals as goal
 
 pub returns : goal.returns
 returns c = record {
-  is = c.look-up.ensures;
-  verdict = subst (Verdict c.args.part.now) (sym c.look-up.ensures) (verdict_of c.args.part.now);
+  is = c.look_up.ensures;
+  verdict = subst (Verdict c.args.part.now) (sym c.look_up.ensures) (verdict_of c.args.part.now);
   one = one_verdict c.args.part.now;
 }

@@ -36,6 +36,6 @@ pub returns-in-71 : goal.returns-in-71
 unfolding kind_of
 returns-in-71 c = grind (arith, nat_tests, take_rest c.args.part.now 1)
 
-pub returns-in-default : goal.returns-in-default
+pub returns-in_default : goal.returns-in_default
 unfolding kind_of
-returns-in-default c = search rules
+returns-in_default c = search rules

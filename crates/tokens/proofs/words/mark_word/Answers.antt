@@ -8,12 +8,12 @@ pub returns-in-len1 : goal.returns-in-len1
 unfolding mark_of
 returns-in-len1 c =
     let one : length c.args.part.now ≡ 1 = grind (arith, nat_tests) in
-    c.mark-of.ensures ∙ ap (named c.args.part.now) (sym (cond-true _ _ _ (eq-eqb (length c.args.part.now) 1 one)))
+    c.mark_of.ensures ∙ ap (named c.args.part.now) (sym (cond-true _ _ _ (eq-eqb (length c.args.part.now) 1 one)))
 
 pub returns-in-61 : goal.returns-in-61
 unfolding mark_of
 returns-in-61 c = search rules
 
-pub returns-in-default : goal.returns-in-default
+pub returns-in_default : goal.returns-in_default
 unfolding mark_of
-returns-in-default c = search rules
+returns-in_default c = search rules

@@ -12,6 +12,6 @@ pub returns-in-83 : goal.returns-in-83
 unfolding not_of
 returns-in-83 c = grind (arith, nat_tests, take_rest c.args.rest.now 1)
 
-pub returns-in-default : goal.returns-in-default
+pub returns-in_default : goal.returns-in_default
 unfolding not_of
-returns-in-default c = search rules
+returns-in_default c = search rules

@@ -12,6 +12,6 @@ pub returns-in-46 : goal.returns-in-46
 unfolding plain_of
 returns-in-46 c = search rules
 
-pub returns-in-default : goal.returns-in-default
+pub returns-in_default : goal.returns-in_default
 unfolding plain_of
-returns-in-default c = grind (arith, nat_tests, get_or_past c.args.part.now 0 0)
+returns-in_default c = grind (arith, nat_tests, get_or_past c.args.part.now 0 0)

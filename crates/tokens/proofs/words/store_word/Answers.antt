@@ -8,6 +8,6 @@ pub returns-in-89 : goal.returns-in-89
 unfolding store_of
 returns-in-89 c = search rules
 
-pub returns-in-default : goal.returns-in-default
+pub returns-in_default : goal.returns-in_default
 unfolding store_of
-returns-in-default c = grind (arith, nat_tests, get_or_past c.args.rest.now 0 0)
+returns-in_default c = grind (arith, nat_tests, get_or_past c.args.rest.now 0 0)
