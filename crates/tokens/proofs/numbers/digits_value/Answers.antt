@@ -8,7 +8,7 @@ use Rattle.tokens.proofs.Digits.{digit_small, more, small, value_more, value_sto
 use Rattle.tokens.proofs.numbers.digits_value.Goals as goal
 
 pub overflow_mul-value : goal.overflow_mul-value
-overflow_mul-value c = omega (arith, small c.loop-b.value c.args.radix 0 c.loop-b.b-index c.loop-b.invariant.0 (omega arith) c.requires.0 (omega arith))
+overflow_mul-value c = omega (arith, small c.loop-b.value c.args.radix 0 c.loop-b.b-index c.loop-b.invariant.0 (omega arith) c.requires.radix_bound (omega arith))
 
 -- the byte at hand is a digit
 one : (c : goal.In_ok-value) → digit c.args.radix (get_or c.args.part.now c.loop-b.b-index 0) ≡ Some c.in_ok-value.field-0
@@ -18,11 +18,11 @@ low : (c : goal.In_ok-value) → c.in_ok-value.field-0 < 16
 low c = digit_small c.args.radix (get_or c.args.part.now c.loop-b.b-index 0) _ (one c)
 
 pub overflow_add-value : goal.overflow_add-value
-overflow_add-value c = omega (arith, small _ _ _ _ c.loop-b.invariant.0 (omega arith) c.requires.0 (low c))
+overflow_add-value c = omega (arith, small _ _ _ _ c.loop-b.invariant.0 (omega arith) c.requires.radix_bound (low c))
 
 pub loop-b-preserved : goal.loop-b-preserved
 loop-b-preserved c = (
-  more _ _ _ _ c.loop-b.invariant.0 c.requires.0 (low c),
+  more _ _ _ _ c.loop-b.invariant.0 c.requires.radix_bound (low c),
   sym (value_more _ _ _ _ _ c.loop-b-test.true (one c)) ∙ c.loop-b.invariant.1,
 )
 
@@ -32,7 +32,7 @@ counted least most n lo hi = and_from _ _ (le-leb _ _ lo) (le-leb _ _ hi)
 
 pub returns-then-part-least : goal.returns-then-part-least
 unfolding value_of
-returns-then-part-least c = record { is = grind (arith, nat_tests); small = c.requires.1 }
+returns-then-part-least c = record { is = grind (arith, nat_tests); small = c.requires.most_bound }
 
 pub returns-in_err-value : goal.returns-in_err-value
 unfolding value_of
@@ -42,7 +42,7 @@ returns-in_err-value c = record {
       ∙ sym (value_stops _ _ _ _ c.loop-b-test.true (sym c.digit_value.ensures ∙ c.in_err-value.was))
       ∙ c.loop-b.invariant.1
       ∙ sym (cond-true _ _ _ (counted _ _ _ c.if-part-least.false c.if-part-most.false));
-  small = subst (λ r. MatchOption r (c.args.most ≤ 5) (λ v. v < 16 ^ c.args.most)) (sym c.from_residual.ensures) c.requires.1;
+  small = subst (λ r. MatchOption r (c.args.most ≤ 5) (λ v. v < 16 ^ c.args.most)) (sym c.from_residual.ensures) c.requires.most_bound;
 }
 
 pub returns : goal.returns
