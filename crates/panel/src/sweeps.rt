@@ -7,10 +7,10 @@ use crate::{Panel, PanelFault};
 
 // Input words 0 to 7, or the first silent one.
 pub fn read_all<P: Panel>(panel: &mut P) -> Result<[u16; 8], PanelFault>
-    ensures answer { result ≡ read_all_of (meaning panel.old) }
-    ensures after { meaning panel.new ≡ meaning panel.old }
-    ensures rest { rest panel.new ≡ rest panel.old }
-    ensures sized { Sized (meaning panel.new) }
+    ensures answer { result ≡ read_all_of (P.meaning panel.old) }
+    ensures after { P.meaning panel.new ≡ P.meaning panel.old }
+    ensures rest { P.rest panel.new ≡ P.rest panel.old }
+    ensures sized { Sized (P.meaning panel.new) }
 {
     let mut words = [0u16; 8];
     for k in 0..8u8 {
@@ -21,11 +21,11 @@ pub fn read_all<P: Panel>(panel: &mut P) -> Result<[u16; 8], PanelFault>
 
 // Puts output words 0 to 7 in order and passes over the silent ones. The answer has bit k set for a silent word k.
 pub fn put_all<P: Panel>(panel: &mut P, words: &[u16; 8]) -> u8
-    ensures mask { result ≡ mask_of (meaning panel.old).output_answers 8 }
-    ensures after { meaning panel.new ≡ after_puts (meaning panel.old) words.now 8 }
-    ensures rest { rest panel.new ≡ rest panel.old }
-    ensures sized { Sized (meaning panel.new) }
-    ensures places { (k : ℕ) → k < 8 → slice_index (meaning panel.new).outputs k ≡ placed (meaning panel.old) words.now k }
+    ensures mask { result ≡ mask_of (P.meaning panel.old).output_answers 8 }
+    ensures after { P.meaning panel.new ≡ after_puts (P.meaning panel.old) words.now 8 }
+    ensures rest { P.rest panel.new ≡ P.rest panel.old }
+    ensures sized { Sized (P.meaning panel.new) }
+    ensures places { (k : ℕ) → k < 8 → slice_index (P.meaning panel.new).outputs k ≡ placed (P.meaning panel.old) words.now k }
 {
     let mut mask = 0u8;
     for k in 0..8u8 {

@@ -10,12 +10,12 @@ pub loop-word-preserved : goal.loop-word-preserved
 loop-word-preserved c =
     let text = c.args.text.now in
     let old = c.loop-word.scanner in
-    let new = c.next-word.new.self in
+    let new = c.next_word.new.self in
     let tally = c.loop-word.tally in
     let w = c.in-Some.word in
-    let came = c.in-ok-word.was ∙ ap Ok c.in-Some.is in
-    let same = ap (λ t. t.now) c.next-word.ensures.same in
-    let turn = turned text old.text.now new.text.now tally.count old.here new.here c.next-word.result w came c.loop-word.invariant.0 same c.next-word.ensures.goes c.next-word.ensures.is new.ok.0 c.loop-word.invariant.1 in
+    let came = c.in_ok-word.was ∙ ap Ok c.in-Some.is in
+    let same = ap (λ t. t.now) c.next_word.ensures.same in
+    let turn = turned text old.text.now new.text.now tally.count old.here new.here c.next_word.result w came c.loop-word.invariant.0 same c.next_word.ensures.goes c.next_word.ensures.is new.ok.0 c.loop-word.invariant.1 in
     let one = c.note-tally.ensures in (
       same ∙ c.loop-word.invariant.0,
       omega (arith, turn.goes, ap (λ t. t.count) one),

@@ -7,12 +7,12 @@ use Rattle.reading.proofs.Verdicts.{verdict_of, one_verdict}
 use Rattle.reading.proofs.Whole.{refused_whole, accepted_whole}
 use Rattle.reading.proofs.read.Goals as goal
 
-pub returns-in-err-judge : goal.returns-in-err-judge
-returns-in-err-judge c =
+pub returns-in_err-judge : goal.returns-in_err-judge
+returns-in_err-judge c =
     let text = c.args.text.now in
     let old = c.args.memory.now in
-    let e = err_from_is_err_and c.from-residual.result c.from-residual.ensures.1 in
-    let same = refused_whole text c.in-err-judge.field-0.0 (sym c.in-err-judge.was ∙ c.judge.ensures) in
+    let e = err_from_is_err_and c.from_residual.result c.from_residual.ensures.1 in
+    let same = refused_whole text c.in_err-judge.field-0.0 (sym c.in_err-judge.was ∙ c.judge.ensures) in
     let is = ap (written old) e.1 ∙ ap Err e.2 ∙ same in
     let judged = subst (Verdict text) (sym is) (verdict_of text) in
     record {
@@ -21,13 +21,13 @@ returns-in-err-judge c =
       size = c.told-memory;
       verdict = judged;
       one = one_verdict text;
-      placed = all_in_place text (written old c.from-residual.result) judged;
+      placed = all_in_place text (written old c.from_residual.result) judged;
     }
 
 pub returns : goal.returns
 returns c =
     let text = c.args.text.now in
-    let a = accepted_whole text c.in-ok-judge.field-0 (sym c.in-ok-judge.was ∙ c.judge.ensures) in
+    let a = accepted_whole text c.in_ok-judge.field-0 (sym c.in_ok-judge.was ∙ c.judge.ensures) in
     let room : length a.tokens ≤ length c.args.memory.now = omega (arith, a.few) in
     let f = c.fill.ensures a.tokens a.judged room in
     let is = f.all ∙ a.read in

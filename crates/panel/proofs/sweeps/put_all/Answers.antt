@@ -2,7 +2,7 @@ use Rattle.std.proofs.Common.{◌≡◌, ◌+◌, ◌^◌, ◌<◌, true, false,
 use Rattle.panel.specs.Meaning.{Meaning, after_put, after_puts, mask_of}
 use Rattle.panel.proofs.Steps.{after_puts_more, mask_more, put_silent, answers_kept, mask_silent, mask_answers, length_after, below}
 use Rattle.panel.proofs.sweeps.put_all.Goals as goal
-use Rattle.panel.proofs.sweeps.put_all.Goals.{then-is-err, else-is-err}
+use Rattle.panel.proofs.sweeps.put_all.Goals.{then-is_err, else-is_err}
 
 pub loop-k-preserved : goal.loop-k-preserved
 loop-k-preserved g c =
@@ -11,8 +11,8 @@ loop-k-preserved g c =
     let k = c.loop-k.k in
     let words = c.args.words.now in
     let silent = put_silent n k c.put.result c.loop-k-test.true c.put.ensures.answer ∙ ap (λ a. not (get_or a k false)) c.loop-k.invariant.1 in
-    let turn : (c.if-is-err.mask ≡ c.loop-k.mask + cond (get_or m.output_answers k false) 0 (2 ^ k)) × (c.if-is-err.mask < 2 ^ (k + 1)) =
-    elim c.if-is-err.branch [ then-is-err w ↦ mask_silent (get_or m.output_answers k false) c.loop-k.mask k _ c.loop-k.invariant.3 c.loop-k-test.true (w.if-is-err.ensures.value ∙ silent) w.mask-is | else-is-err w ↦ mask_answers (get_or m.output_answers k false) c.loop-k.mask k _ c.loop-k.invariant.3 (w.if-is-err.ensures.value ∙ silent) w.mask-is ] in (
+    let turn : (c.if-is_err.mask ≡ c.loop-k.mask + cond (get_or m.output_answers k false) 0 (2 ^ k)) × (c.if-is_err.mask < 2 ^ (k + 1)) =
+    elim c.if-is_err.branch [ then-is_err w ↦ mask_silent (get_or m.output_answers k false) c.loop-k.mask k _ c.loop-k.invariant.3 c.loop-k-test.true (w.if-is_err.ensures.value ∙ silent) w.mask-is | else-is_err w ↦ mask_answers (get_or m.output_answers k false) c.loop-k.mask k _ c.loop-k.invariant.3 (w.if-is_err.ensures.value ∙ silent) w.mask-is ] in (
       c.put.ensures.after ∙ ap (λ x. after_put x k (get_or words k 0)) c.loop-k.invariant.0 ∙ sym (after_puts_more m words k),
       ap (λ (x : Meaning). x.output_answers) c.put.ensures.after ∙ answers_kept n k _ ∙ c.loop-k.invariant.1,
       turn.0 ∙ ap (λ x. x + cond (get_or m.output_answers k false) 0 (2 ^ k)) c.loop-k.invariant.2 ∙ sym (mask_more m.output_answers k),

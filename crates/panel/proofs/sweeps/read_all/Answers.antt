@@ -9,12 +9,12 @@ use Rattle.panel.specs.Sweeps.{words_unless}
 use Rattle.panel.proofs.Steps.{silent_answers, silent_here, read_ok, read_err}
 use Rattle.panel.proofs.sweeps.read_all.Goals as goal
 
-pub returns-in-err-words : goal.returns-in-err-words
-returns-in-err-words g c =
+pub returns-in_err-words : goal.returns-in_err-words
+returns-in_err-words g c =
     let m = g.P.Panel.meaning c.args.panel.now in
     let k = c.loop-k.k in
-    let p = err_from_is_err_and c.from-residual.result c.from-residual.ensures.1 in
-    let q = read_err m k c.in-err-words.field-0.0 c.loop-k-test.true (c.in-err-words.ensures.answer ∙ ap (λ (x : Meaning). read_of x k) c.loop-k.invariant.1) in
+    let p = err_from_is_err_and c.from_residual.result c.from_residual.ensures.1 in
+    let q = read_err m k c.in_err-words.field-0.0 c.loop-k-test.true (c.in_err-words.ensures.answer ∙ ap (λ (x : Meaning). read_of x k) c.loop-k.invariant.1) in
     let s = sym c.loop-k.invariant.2 ∙ silent_here m.input_answers k 8 c.loop-k-test.true q.0 in
     record {
       answer = p.1 ∙ ap Err (p.2 ∙ q.1) ∙ ap (λ o. words_unless o (words_of m)) (sym s);
@@ -27,7 +27,7 @@ pub loop-k-preserved : goal.loop-k-preserved
 loop-k-preserved g c =
     let m = g.P.Panel.meaning c.args.panel.now in
     let k = c.loop-k.k in
-    let q = read_ok m k c.in-ok-words.field-0 c.loop-k-test.true (c.in-ok-words.ensures.answer ∙ ap (λ (x : Meaning). read_of x k) c.loop-k.invariant.1) in
+    let q = read_ok m k c.in_ok-words.field-0 c.loop-k-test.true (c.in_ok-words.ensures.answer ∙ ap (λ (x : Meaning). read_of x k) c.loop-k.invariant.1) in
     let inside : k < length c.loop-k.words = omega arith in (
       length-set _ _ _ ∙ c.loop-k.invariant.0,
       c.read.ensures.after ∙ c.loop-k.invariant.1,

@@ -2,5 +2,5 @@ use Rattle.std.proofs.Common.{refl, arith}
 use Rattle.program.proofs.Soundness.{returns_fine}
 use Rattle.program.proofs.record.Program.empty.Goals as goal
 
-pub invariant-of-result : goal.invariant-of-result
-invariant-of-result c = (refl, (omega arith, ((omega arith, omega arith), (λ n. returns_fine 2048 2 n, tt))))
+pub invariant_of-result : goal.invariant_of-result
+invariant_of-result c = record { whole = refl; within = omega arith; entries = (omega arith, omega arith); sound = λ n. returns_fine 2048 2 n }
