@@ -9,14 +9,14 @@ loop-n-preserved c =
     let xs = c.args.bytes.now in
     let n = c.loop-n.n in
     let full : 49 * n + 49 - 49 * n ≡ 49 = omega arith in
-    bad_more xs n (length xs / 49) c.loop-n-test.true (sym (c.if-not-is-line.ensures ∙ ap (λ j. line_holds (take j (drop (49 * n) xs))) full)) ∙ c.loop-n.invariant
+    bad_more xs n (length xs / 49) c.loop-n-test.true (sym (c.if-not-is_line.ensures ∙ ap (λ j. line_holds (take j (drop (49 * n) xs))) full)) ∙ c.loop-n.invariant
 
-pub returns-then-not-is-line : goal.returns-then-not-is-line
-returns-then-not-is-line c =
+pub returns-then-not-is_line : goal.returns-then-not-is_line
+returns-then-not-is_line c =
     let xs = c.args.bytes.now in
     let n = c.loop-n.n in
     let full : 49 * n + 49 - 49 * n ≡ 49 = omega arith in
-    sym (bad_here xs n (length xs / 49) c.loop-n-test.true (sym (c.if-not-is-line.ensures ∙ ap (λ j. line_holds (take j (drop (49 * n) xs))) full))) ∙ c.loop-n.invariant
+    sym (bad_here xs n (length xs / 49) c.loop-n-test.true (sym (c.if-not-is_line.ensures ∙ ap (λ j. line_holds (take j (drop (49 * n) xs))) full))) ∙ c.loop-n.invariant
 
 pub returns : goal.returns
 returns c =

@@ -19,5 +19,5 @@ returns c =
     let full : 49 * (n - 1) + 49 - 49 * (n - 1) ≡ 49 = omega arith in
     let six : 6 * k + 6 - 6 * k ≡ 6 = omega arith in
     let most : n ≤ length bytes / 49 = omega arith in
-    ap entry_of (c.read-field.ensures ∙ ap (λ j. field_of (take j (drop (6 * k) (take (49 * (n - 1) + 49 - 49 * (n - 1)) (drop (49 * (n - 1)) bytes))))) six ∙ ap (λ j. field_of (take 6 (drop (6 * k) (take j (drop (49 * (n - 1)) bytes))))) full)
+    ap entry_of (c.read_field.ensures ∙ ap (λ j. field_of (take j (drop (6 * k) (take (49 * (n - 1) + 49 - 49 * (n - 1)) (drop (49 * (n - 1)) bytes))))) six ∙ ap (λ j. field_of (take 6 (drop (6 * k) (take j (drop (49 * (n - 1)) bytes))))) full)
     ∙ inside bytes n k c.if-self-eq0.false most c.requires

@@ -5,12 +5,12 @@ use Rattle.tape.proofs.Plays.{plays}
 use Rattle.tape.proofs.Tapes.{one_verdict}
 use Rattle.tape.proofs.Tape.new.Goals as goal
 
-pub returns-in-err-check : goal.returns-in-err-check
-returns-in-err-check c =
+pub returns-in_err-check : goal.returns-in_err-check
+returns-in_err-check c =
     let bytes = c.args.bytes.now in
-    let p = err_from_is_err_and c.from-residual.result c.from-residual.ensures.1 in
+    let p = err_from_is_err_and c.from_residual.result c.from_residual.ensures.1 in
     record {
-      answer = ap shown (p.1 ∙ ap Err p.2) ∙ ap (started bytes) c.in-err-check.ensures;
+      answer = ap shown (p.1 ∙ ap Err p.2) ∙ ap (started bytes) c.in_err-check.ensures;
       verdict = one_verdict bytes;
       plays = plays bytes;
     }
@@ -18,4 +18,4 @@ returns-in-err-check c =
 pub returns : goal.returns
 returns c =
     let bytes = c.args.bytes.now in
-    record { answer = ap (started bytes) c.in-ok-check.ensures; verdict = one_verdict bytes; plays = plays bytes }
+    record { answer = ap (started bytes) c.in_ok-check.ensures; verdict = one_verdict bytes; plays = plays bytes }

@@ -12,16 +12,16 @@ loop-k-preserved c =
     let xs = c.args.line.now in
     let k = c.loop-k.k in
     let six : 6 * k + 6 - 6 * k ≡ 6 = omega arith in
-    let f = c.read-field.ensures ∙ ap (λ n. field_of (take n (drop (6 * k) xs))) six in
-    line_more xs k c.loop-k-test.true (sym (c.if-not-is-entry.ensures ∙ ap stands f)) ∙ c.loop-k.invariant
+    let f = c.read_field.ensures ∙ ap (λ n. field_of (take n (drop (6 * k) xs))) six in
+    line_more xs k c.loop-k-test.true (sym (c.if-not-is_entry.ensures ∙ ap stands f)) ∙ c.loop-k.invariant
 
-pub returns-then-not-is-entry : goal.returns-then-not-is-entry
-returns-then-not-is-entry c =
+pub returns-then-not-is_entry : goal.returns-then-not-is_entry
+returns-then-not-is_entry c =
     let xs = c.args.line.now in
     let k = c.loop-k.k in
     let six : 6 * k + 6 - 6 * k ≡ 6 = omega arith in
-    let f = c.read-field.ensures ∙ ap (λ n. field_of (take n (drop (6 * k) xs))) six in
-    sym (line_stops xs k c.loop-k-test.true (sym (c.if-not-is-entry.ensures ∙ ap stands f))) ∙ c.loop-k.invariant
+    let f = c.read_field.ensures ∙ ap (λ n. field_of (take n (drop (6 * k) xs))) six in
+    sym (line_stops xs k c.loop-k-test.true (sym (c.if-not-is_entry.ensures ∙ ap stands f))) ∙ c.loop-k.invariant
 
 pub returns : goal.returns
 returns c =
