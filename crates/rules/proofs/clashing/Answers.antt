@@ -16,7 +16,7 @@ returns-then-clashes c = record {
 }
 
 pub loop-i-preserved : goal.loop-i-preserved
-loop-i-preserved c = sweeps c.loop-i.invariant c.home-after-within.ensures (not_from_Decides _ c.clashes.ensures c.if-clashes.false)
+loop-i-preserved c = sweeps c.loop-i.invariant c.home_after-within.ensures (not_from_Decides _ c.clashes.ensures c.if-clashes.false)
 
 pub returns : goal.returns
 returns c = record {

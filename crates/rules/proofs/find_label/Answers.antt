@@ -5,7 +5,7 @@ use Rattle.rules.proofs.Seen.{label_role}
 use Rattle.rules.proofs.Places.{other_label, same_label, label_inside, nowhere}
 use Rattle.rules.proofs.Unique.{one_finding}
 use Rattle.rules.proofs.find_label.Goals as goal
-use Rattle.rules.proofs.find_label.Goals.{in-Label+else-found-n, in-default}
+use Rattle.rules.proofs.find_label.Goals.{in-Label+else-found-n, in_default}
 
 pub returns-then-found-n : goal.returns-then-found-n
 returns-then-found-n c = record {
@@ -16,9 +16,9 @@ returns-then-found-n c = record {
 pub loop-i-preserved : goal.loop-i-preserved
 loop-i-preserved c =
     below_more _ _ c.loop-i.invariant
-    (elim c.match-role-at.branch [
+    (elim c.match-role_at.branch [
       | in-Label+else-found-n w ↦ λ p. w.if-found-n.false (same_label _ _ _ (label_role _ _ w.in-Label.ensures) p)
-      | in-default w ↦ λ p. other_label _ _ c.role-at.ensures w.in-default.not-Label _ p
+      | in_default w ↦ λ p. other_label _ _ c.role_at.ensures w.in_default.not-Label _ p
     ])
 
 pub returns : goal.returns

@@ -7,14 +7,14 @@ use Rattle.rules.proofs.Places.{sweeps, swept_lit, nowhere, inside, home_is_last
 use Rattle.rules.proofs.Passes.{on_level}
 use Rattle.rules.proofs.Unique.{one_finding}
 use Rattle.rules.proofs.misplaced.Goals as goal
-use Rattle.rules.proofs.misplaced.Goals.{in-LevelOne+else-is-lit, in-default}
+use Rattle.rules.proofs.misplaced.Goals.{in-LevelOne+else-is_lit, in_default}
 
-pub returns-then-is-lit : goal.returns-then-is-lit
-returns-then-is-lit c = record {
+pub returns-then-is_lit : goal.returns-then-is_lit
+returns-then-is_lit c = record {
   first = (
     (
       (alone_role (kind_at (kinds_of c.args.tokens.now) c.loop-i.i)).1 (subst Alone c.in-LevelOne.ensures tt),
-      (on_level _ 0 _ c.reached-slow.ensures _).0 (swept_lit c.loop-i.invariant c.reached-slow.result c.is-lit.ensures c.if-is-lit.true),
+      (on_level _ 0 _ c.reached-slow.ensures _).0 (swept_lit c.loop-i.invariant c.reached-slow.result c.is_lit.ensures c.if-is_lit.true),
     ),
     c.loop-i.invariant.clear,
   );
@@ -24,10 +24,10 @@ returns-then-is-lit c = record {
 
 pub loop-i-preserved : goal.loop-i-preserved
 loop-i-preserved c =
-    sweeps c.loop-i.invariant c.home-after-within.ensures
-    (elim c.match-role-at.branch [
-      | in-LevelOne+else-is-lit w ↦ λ p. not_from_Decides _ (on_level _ 0 _ c.reached-slow.ensures _) (swept_lit c.loop-i.invariant c.reached-slow.result w.is-lit.ensures w.if-is-lit.false) p.1
-      | in-default w ↦ λ p. w.in-default.not-LevelOne (c.role-at.ensures ∙ alone_is _ ((alone_role (kind_at (kinds_of c.args.tokens.now) c.loop-i.i)).0 p.0))
+    sweeps c.loop-i.invariant c.home_after-within.ensures
+    (elim c.match-role_at.branch [
+      | in-LevelOne+else-is_lit w ↦ λ p. not_from_Decides _ (on_level _ 0 _ c.reached-slow.ensures _) (swept_lit c.loop-i.invariant c.reached-slow.result w.is_lit.ensures w.if-is_lit.false) p.1
+      | in_default w ↦ λ p. w.in_default.not-LevelOne (c.role_at.ensures ∙ alone_is _ ((alone_role (kind_at (kinds_of c.args.tokens.now) c.loop-i.i)).0 p.0))
     ])
 
 pub returns : goal.returns

@@ -5,16 +5,16 @@ use Rattle.rules.specs.Labels.{kinds_of, kind_at}
 use Rattle.rules.proofs.Places.{sweeps, swept_lit}
 use Rattle.rules.proofs.Overlaps.{covers_some, some_covers}
 use Rattle.rules.proofs.touched.Goals as goal
-use Rattle.rules.proofs.touched.Goals.{then-stores-among+else-is-lit, else-stores-among}
+use Rattle.rules.proofs.touched.Goals.{then-stores_among+else-is_lit, else-stores_among}
 
-pub returns-then-is-lit : goal.returns-then-is-lit
-returns-then-is-lit c = (
+pub returns-then-is_lit : goal.returns-then-is_lit
+returns-then-is_lit c = (
   λ t. (
     c.loop-j.j,
     c.loop-j-test.true,
     (
-      swept_lit c.loop-j.invariant c.args.marks.now c.is-lit.ensures c.if-is-lit.true,
-      covers_some (kind_at (kinds_of c.args.tokens.now) c.loop-j.j) _ _ _ c.role-at.ensures (c.stores-among.ensures.0 c.if-stores-among.true),
+      swept_lit c.loop-j.invariant c.args.marks.now c.is_lit.ensures c.if-is_lit.true,
+      covers_some (kind_at (kinds_of c.args.tokens.now) c.loop-j.j) _ _ _ c.role_at.ensures (c.stores_among.ensures.0 c.if-stores_among.true),
     ),
   ),
   λ p. refl,
@@ -22,10 +22,10 @@ returns-then-is-lit c = (
 
 pub loop-j-preserved : goal.loop-j-preserved
 loop-j-preserved c =
-    sweeps c.loop-j.invariant c.home-after-within.ensures
-    (elim c.if-stores-among.branch [
-      | then-stores-among+else-is-lit w ↦ λ p. both_ways _ (swept_lit c.loop-j.invariant c.args.marks.now w.is-lit.ensures w.if-is-lit.false) p.0
-      | else-stores-among w ↦ λ p. not_from_Decides _ c.stores-among.ensures w.if-stores-among.false (some_covers (kind_at (kinds_of c.args.tokens.now) c.loop-j.j) _ _ _ c.role-at.ensures p.1)
+    sweeps c.loop-j.invariant c.home_after-within.ensures
+    (elim c.if-stores_among.branch [
+      | then-stores_among+else-is_lit w ↦ λ p. both_ways _ (swept_lit c.loop-j.invariant c.args.marks.now w.is_lit.ensures w.if-is_lit.false) p.0
+      | else-stores_among w ↦ λ p. not_from_Decides _ c.stores_among.ensures w.if-stores_among.false (some_covers (kind_at (kinds_of c.args.tokens.now) c.loop-j.j) _ _ _ c.role_at.ensures p.1)
     ])
 
 pub returns : goal.returns

@@ -5,7 +5,7 @@ use Rattle.rules.proofs.Seen.{call_role}
 use Rattle.rules.proofs.Places.{other_call, astray, not_astray, not_called, linked, rootless, downward, calls_land}
 use Rattle.rules.proofs.Unique.{one_finding}
 use Rattle.rules.proofs.unlinked.Goals as goal
-use Rattle.rules.proofs.unlinked.Goals.{in-Call+else-not-labelled, in-default, else-labelled-via-then-labelled+else-labelled-2, else-labelled-via-else-labelled}
+use Rattle.rules.proofs.unlinked.Goals.{in-Call+else-not-labelled, in_default, else-labelled-via-then-labelled+else-labelled-2, else-labelled-via-else-labelled}
 
 pub returns-then-not-labelled : goal.returns-then-not-labelled
 returns-then-not-labelled c = record {
@@ -18,9 +18,9 @@ returns-then-not-labelled c = record {
 pub loop-i-preserved : goal.loop-i-preserved
 loop-i-preserved c =
     below_more _ _ c.loop-i.invariant
-    (elim c.match-role-at.branch [
+    (elim c.match-role_at.branch [
       | in-Call+else-not-labelled w ↦ not_astray c.args.tokens.now _ _ _ c.loop-i-test.true (call_role _ _ w.in-Call.ensures) w.labelled.ensures w.if-not-labelled.false
-      | in-default w ↦ not_called c.args.tokens.now _ c.loop-i-test.true (other_call _ _ c.role-at.ensures w.in-default.not-Call)
+      | in_default w ↦ not_called c.args.tokens.now _ c.loop-i-test.true (other_call _ _ c.role_at.ensures w.in_default.not-Call)
     ])
 
 pub returns-then-labelled-2 : goal.returns-then-labelled-2
