@@ -4,14 +4,14 @@ use Rattle.program.specs.Sound.{padded}
 use Rattle.linking.proofs.Assembling.{place_small, len_small, part_is, loaded}
 use Rattle.linking.proofs.judging.assemble.Goals as goal
 
-pub overflow-cast-quick : goal.overflow-cast-quick
-overflow-cast-quick c = omega (arith, place_small (kinds_of c.args.tokens.now) c.requires.room 1 _ c.entry-quick.ensures.place)
+pub overflow_cast-quick : goal.overflow_cast-quick
+overflow_cast-quick c = omega (arith, place_small (kinds_of c.args.tokens.now) c.requires.room 1 _ c.entry-quick.ensures.place)
 
-pub overflow-cast-slow : goal.overflow-cast-slow
-overflow-cast-slow c = omega (arith, place_small (kinds_of c.args.tokens.now) c.requires.room 0 _ c.entry-slow.ensures.place)
+pub overflow_cast-slow : goal.overflow_cast-slow
+overflow_cast-slow c = omega (arith, place_small (kinds_of c.args.tokens.now) c.requires.room 0 _ c.entry-slow.ensures.place)
 
-pub slice-bounds-load-end : goal.slice-bounds-load-end
-slice-bounds-load-end c = omega (arith, len_small (kinds_of c.args.tokens.now) c.requires.room _ c.in-Some.ensures.answer, c.emit.array_long)
+pub slice_bounds-load-end : goal.slice_bounds-load-end
+slice_bounds-load-end c = omega (arith, len_small (kinds_of c.args.tokens.now) c.requires.room _ c.in-Some.ensures.answer, c.emit.array_long)
 
 pub returns : goal.returns
 returns c =

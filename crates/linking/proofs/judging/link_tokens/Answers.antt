@@ -6,11 +6,11 @@ use Rattle.linking.proofs.Joining.{known, room, linked, weight_fault}
 use Rattle.linking.proofs.Verdicts.{token_fault}
 use Rattle.linking.proofs.judging.link_tokens.Goals as goal
 
-pub returns-in-err-check-rules : goal.returns-in-err-check-rules
-returns-in-err-check-rules c =
-    let e = err_from_is_err_and c.from-residual.result c.from-residual.ensures.1 in
+pub returns-in_err-check_rules : goal.returns-in_err-check_rules
+returns-in_err-check_rules c =
+    let e = err_from_is_err_and c.from_residual.result c.from_residual.ensures.1 in
     subst (Links c.args.text.now) (sym (e.1 ∙ ap Err e.2))
-    (token_fault c.args.text.now (map item c.args.tokens.now) c.requires.0 _ c.requires.1 c.in-err-check-rules.ensures)
+    (token_fault c.args.text.now (map item c.args.tokens.now) c.requires.0 _ c.requires.1 c.in_err-check_rules.ensures)
 
 pub assemble-program-requires : goal.assemble-program-requires
 assemble-program-requires c = record {
@@ -19,11 +19,11 @@ assemble-program-requires c = record {
   room = room c.args.text.now (map item c.args.tokens.now) c.requires.0 c.requires.1;
 }
 
-pub returns-in-err-figures : goal.returns-in-err-figures
-returns-in-err-figures c =
-    let e = err_from_is_err_and c.from-residual-in-err-figures.result c.from-residual-in-err-figures.ensures.1 in
+pub returns-in_err-figures : goal.returns-in_err-figures
+returns-in_err-figures c =
+    let e = err_from_is_err_and c.from_residual-in_err-figures.result c.from_residual-in_err-figures.ensures.1 in
     subst (Links c.args.text.now) (sym (e.1 ∙ ap Err e.2))
-    (weight_fault c.args.text.now (map item c.args.tokens.now) c.requires.0 c.requires.1 c.in-ok-check-rules.ensures _ (c.in-err-figures.ensures c.requires.0 c.requires.1.spelled))
+    (weight_fault c.args.text.now (map item c.args.tokens.now) c.requires.0 c.requires.1 c.in_ok-check_rules.ensures _ (c.in_err-figures.ensures c.requires.0 c.requires.1.spelled))
 
 pub returns : goal.returns
-returns c = linked c.args.text.now (map item c.args.tokens.now) c.requires.0 c.requires.1 c.in-ok-check-rules.ensures c.assemble-program.result c.in-ok-figures.figures c.assemble-program.ensures (c.in-ok-figures.ensures c.requires.0 c.requires.1.spelled)
+returns c = linked c.args.text.now (map item c.args.tokens.now) c.requires.0 c.requires.1 c.in_ok-check_rules.ensures c.assemble-program.result c.in_ok-figures.figures c.assemble-program.ensures (c.in_ok-figures.ensures c.requires.0 c.requires.1.spelled)

@@ -3,5 +3,5 @@ use Rattle.linking.specs.Records.{two_empty}
 use Rattle.linking.proofs.Empty.{accepted_empty}
 use Rattle.linking.proofs.compiled.Compiled.empty.Goals as goal
 
-pub invariant-of-result : goal.invariant-of-result
-invariant-of-result c = (∣ record { text = _; modules = two_empty; accepted = accepted_empty; recorded = search rules } ∣₁, tt)
+pub invariant_of-result : goal.invariant_of-result
+invariant_of-result c = record { compiled = ∣ record { text = _; modules = two_empty; accepted = accepted_empty; recorded = search rules } ∣₁ }
