@@ -191,31 +191,38 @@ const ACCEPTED: [(&[u8], usize); 42] = [
     ),
 ];
 
-fn refuses(rt: &impl Abort, text: &[u8], cause: u8, line: u32, column: u32) -> Result<(), Fail> {
+fn refuses(
+    rt: &impl Abort,
+    row: usize,
+    text: &[u8],
+    cause: u8,
+    line: u32,
+    column: u32,
+) -> Result<(), Fail> {
     let mut memory = [Placed::blank(); 2048];
     match parse(text, &mut memory) {
         Ok(_) => Err(Fail::new("accepted")),
         Err(fault) => {
-            assert_eq!(rt; fault.cause(), cause);
+            assert_eq!(rt; fault.cause(), cause, "row {row}");
             let layer = if cause > 6 {
                 Layer::Grammar
             } else {
                 Layer::Reading
             };
-            assert!(rt; fault.layer() == layer);
-            assert!(rt; fault.place() == Place { line, column });
+            assert!(rt; fault.layer() == layer, "row {row}");
+            assert!(rt; fault.place() == Place { line, column }, "row {row}");
             Ok(())
         }
     }
 }
 
-fn accepts(rt: &impl Abort, text: &[u8], modules: usize) -> Result<(), Fail> {
+fn accepts(rt: &impl Abort, row: usize, text: &[u8], modules: usize) -> Result<(), Fail> {
     let mut memory = [Placed::blank(); 2048];
     match parse(text, &mut memory) {
         Ok(shape) => {
-            assert_eq!(rt; shape.modules, modules);
+            assert_eq!(rt; shape.modules, modules, "row {row}");
             Ok(())
-        },
+        }
         Err(_) => Err(Fail::new("refused")),
     }
 }
@@ -223,7 +230,7 @@ fn accepts(rt: &impl Abort, text: &[u8], modules: usize) -> Result<(), Fail> {
 #[test]
 fn lists_that_are_refused(rt: HostRuntime) -> Result<(), Fail> {
     for (row, (text, cause, line, column)) in REFUSED.iter().enumerate() {
-        refuses(&rt, text, *cause, *line, *column).note(row)?;
+        refuses(&rt, row, text, *cause, *line, *column)?;
     }
     Ok(())
 }
@@ -231,7 +238,7 @@ fn lists_that_are_refused(rt: HostRuntime) -> Result<(), Fail> {
 #[test]
 fn lists_that_are_accepted(rt: HostRuntime) -> Result<(), Fail> {
     for (row, (text, modules)) in ACCEPTED.iter().enumerate() {
-        accepts(&rt, text, *modules).note(row)?;
+        accepts(&rt, row, text, *modules)?;
     }
     Ok(())
 }

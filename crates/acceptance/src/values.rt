@@ -24,14 +24,14 @@ fn bit(area: Area, byte: u8, bit: u8) -> BitCell {
 fn bits(rt: HostRuntime) -> Result<(), Fail> {
     match first(b"NLI337")? {
         Token::LoadBit(part, cell, negated) => {
-            assert_eq!(rt; part, b"NLI337");
+            assert_eq!(rt; part, b"NLI337".as_slice());
             assert!(rt; cell == bit(Area::Input, 15, 7) && negated);
         }
         _ => return Err(Fail::new("no load of a bit")),
     }
     match first(b"UF1277")? {
         Token::Switch(part, cell, on) => {
-            assert_eq!(rt; part, b"UF1277");
+            assert_eq!(rt; part, b"UF1277".as_slice());
             assert!(rt; cell == bit(Area::Internal, 127, 7) && on);
         }
         _ => return Err(Fail::new("no switch")),
@@ -63,7 +63,7 @@ fn words(rt: HostRuntime) -> Result<(), Fail> {
     }
     match first(b"L.FFFF")? {
         Token::LoadNumber(part, value) => {
-            assert_eq!(rt; part, b"L.FFFF");
+            assert_eq!(rt; part, b"L.FFFF".as_slice());
             assert_eq!(rt; value, 65535);
         }
         _ => return Err(Fail::new("no load of a number")),
@@ -92,7 +92,7 @@ fn memory_of_a_refused_text(rt: HostRuntime) -> Result<(), Fail> {
             assert!(rt; placed.place == Place { line: 1, column: 1 });
             match placed.token {
                 Token::Return(part) => {
-                    assert_eq!(rt; part, b"R");
+                    assert_eq!(rt; part, b"R".as_slice());
                     Ok(())
                 },
                 _ => Err(Fail::new("another token")),

@@ -138,26 +138,33 @@ const READ: [(&[u8], usize); 33] = [
     ),
 ];
 
-fn refuses(rt: &impl Abort, text: &[u8], cause: u8, line: u32, column: u32) -> Result<(), Fail> {
+fn refuses(
+    rt: &impl Abort,
+    row: usize,
+    text: &[u8],
+    cause: u8,
+    line: u32,
+    column: u32,
+) -> Result<(), Fail> {
     let mut memory = [Placed::blank(); 2048];
     match read(text, &mut memory) {
         Ok(_) => Err(Fail::new("read")),
         Err(fault) => {
-            assert_eq!(rt; fault.cause(), cause);
-            assert!(rt; fault.layer() == Layer::Reading);
-            assert!(rt; fault.place() == Place { line, column });
+            assert_eq!(rt; fault.cause(), cause, "row {row}");
+            assert!(rt; fault.layer() == Layer::Reading, "row {row}");
+            assert!(rt; fault.place() == Place { line, column }, "row {row}");
             Ok(())
         }
     }
 }
 
-fn reads(rt: &impl Abort, text: &[u8], tokens: usize) -> Result<(), Fail> {
+fn reads(rt: &impl Abort, row: usize, text: &[u8], tokens: usize) -> Result<(), Fail> {
     let mut memory = [Placed::blank(); 2048];
     match read(text, &mut memory) {
         Ok(n) => {
-            assert_eq!(rt; n, tokens);
+            assert_eq!(rt; n, tokens, "row {row}");
             Ok(())
-        },
+        }
         Err(_) => Err(Fail::new("refused")),
     }
 }
@@ -165,7 +172,7 @@ fn reads(rt: &impl Abort, text: &[u8], tokens: usize) -> Result<(), Fail> {
 #[test]
 fn texts_that_are_refused(rt: HostRuntime) -> Result<(), Fail> {
     for (row, (text, cause, line, column)) in REFUSED.iter().enumerate() {
-        refuses(&rt, text, *cause, *line, *column).note(row)?;
+        refuses(&rt, row, text, *cause, *line, *column)?;
     }
     Ok(())
 }
@@ -173,7 +180,7 @@ fn texts_that_are_refused(rt: HostRuntime) -> Result<(), Fail> {
 #[test]
 fn texts_that_are_read(rt: HostRuntime) -> Result<(), Fail> {
     for (row, (text, tokens)) in READ.iter().enumerate() {
-        reads(&rt, text, *tokens).note(row)?;
+        reads(&rt, row, text, *tokens)?;
     }
     Ok(())
 }
@@ -181,19 +188,19 @@ fn texts_that_are_read(rt: HostRuntime) -> Result<(), Fail> {
 // 16,384 bytes are read and one more is not; 2,048 tokens are, and the next stands at its place.
 #[test]
 fn limits(rt: HostRuntime) -> Result<(), Fail> {
-    reads(&rt, &[b' '; 16384], 0)?;
-    refuses(&rt, &[b' '; 16385], 1, 0, 0)?;
-    refuses(&rt, &[0u8; 16384], 2, 1, 1)?;
-    refuses(&rt, &[0u8; 16385], 1, 0, 0)?;
-    reads(&rt, &[b'['; 2048], 2048)?;
-    refuses(&rt, &[b'['; 2049], 6, 1, 2049)?;
+    reads(&rt, 1, &[b' '; 16384], 0)?;
+    refuses(&rt, 2, &[b' '; 16385], 1, 0, 0)?;
+    refuses(&rt, 3, &[0u8; 16384], 2, 1, 1)?;
+    refuses(&rt, 4, &[0u8; 16385], 1, 0, 0)?;
+    reads(&rt, 5, &[b'['; 2048], 2048)?;
+    refuses(&rt, 6, &[b'['; 2049], 6, 1, 2049)?;
     let mut late = [b'['; 2060];
     late[2059] = b'5';
-    refuses(&rt, &late, 6, 1, 2049)?;
+    refuses(&rt, 7, &late, 6, 1, 2049)?;
     late[2058] = b'O';
-    refuses(&rt, &late, 4, 1, 2059)?;
+    refuses(&rt, 8, &late, 4, 1, 2059)?;
     late[2057] = 0;
-    refuses(&rt, &late, 2, 1, 2058)
+    refuses(&rt, 9, &late, 2, 1, 2058)
 }
 
 // Every byte by itself: outside a comment, and inside one of each kind.
@@ -207,9 +214,9 @@ fn bytes(rt: HostRuntime) -> Result<(), Fail> {
             Err(fault) => fault.cause() == 2,
         };
         let allowed = b == 9 || b == 10 || b == 13 || (32 <= b && b <= 126);
-        assert!(rt; bad != allowed);
-        reads(&rt, &[b';', b, b'\n', b'R'], 1)?;
-        reads(&rt, &[b'/', b'*', b, b'*', b'/', b'R'], 1)?;
+        assert!(rt; bad != allowed, "byte {b}");
+        reads(&rt, b as usize, &[b';', b, b'\n', b'R'], 1)?;
+        reads(&rt, b as usize, &[b'/', b'*', b, b'*', b'/', b'R'], 1)?;
     }
     Ok(())
 }
