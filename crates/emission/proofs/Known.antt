@@ -1,5 +1,5 @@
 -- The tokens of a text that is read name only cells that there are. Assumes nothing.
-use Rattle.std.proofs.Common.{◌≡◌, ℕ, ◌+◌, ◌*◌, ◌%◌, ◌<◌, ◌≤◌, Bool, true, false, ◌&&◌, eqb, ltb, List, [], ◌∷◌, map, sym, refl, ap, ◌∙◌, subst, arith, lt-ltb, eq-eqb}
+use Rattle.std.proofs.Common.{◌≡◌, ℕ, ◌+◌, ◌*◌, ◌%◌, ◌<◌, true, eqb, ltb, List, [], ◌∷◌, refl, ap, ◌∙◌, arith, lt-ltb, eq-eqb}
 use Rattle.std.proofs.lemmas.Bool.{and_from}
 use Rattle.scanning.specs.Pieces.{Spot}
 use Rattle.tokens.specs.declared.Area.{Area}
@@ -9,7 +9,7 @@ use Rattle.tokens.specs.declared.WordCell.{WordCell}
 use Rattle.tokens.specs.declared.WordCell.TheVariants.{Pair, Timer}
 use Rattle.tokens.specs.Cells.{bit_cell_in}
 use Rattle.tokens.specs.Tokens.{Kind}
-use Rattle.tokens.specs.Listed.{BoardBit, InternalBit, BoardWord, InternalWord, TimerNumber, BitReference, input_bit, output_bit, change_bit, internal_bit, WordReference, input_word, output_word, change_word, internal_word, timer_word, StoredArea, StoredWord, Sign, is_and, is_or, is_xor, is_plus, is_minus, is_less, is_greater, is_equal, is_at_most, is_at_least, is_open, is_close, is_else, is_end_of_condition, is_return, Listed, is_number, is_load_number, is_load_bit, is_load_word, is_store_bit, is_store_word, is_switch_output, is_switch_internal, is_test, is_sign, is_end_of_level, is_label, is_call}
+use Rattle.tokens.specs.Listed.{BoardBit, InternalBit, BoardWord, BitReference, input_bit, output_bit, change_bit, internal_bit, WordReference, input_word, output_word, change_word, internal_word, timer_word, StoredArea, StoredWord, Sign, is_and, is_or, is_xor, is_plus, is_minus, is_less, is_greater, is_equal, is_at_most, is_at_least, is_open, is_close, is_else, is_end_of_condition, is_return, Listed, is_number, is_load_number, is_load_bit, is_load_word, is_store_bit, is_store_word, is_switch_output, is_switch_internal, is_test, is_sign, is_end_of_level, is_label, is_call}
 use Rattle.reading.specs.Items.{Item}
 use Rattle.reading.specs.Verdict.{Tokens}
 use Rattle.grammar.specs.Verdict.{kinds}

@@ -1,18 +1,17 @@
 -- The code by tokens of what modules are written as is the code of the modules. Assumes nothing.
-use Rattle.std.proofs.Common.{◌≡◌, ℕ, zero, suc, ◌+◌, Bool, true, false, cond, eqb, List, [], ◌∷◌, ◌++◌, length, sym, refl, ap, ◌∙◌, append_assoc, arith, length-append}
+use Rattle.std.proofs.Common.{◌≡◌, ℕ, suc, ◌+◌, Bool, true, false, cond, eqb, List, [], ◌∷◌, ◌++◌, length, sym, refl, ap, ◌∙◌, append_assoc, arith, length-append}
 use Rattle.tokens.specs.declared.Operator.{Operator}
-use Rattle.tokens.specs.Tokens.{Kind, bracket_opens, bracket_closes, number, load_number, load_bit, load_word, store_bit, store_word, switch, test, operator, comparison, otherwise, end_of_condition, end_of_level, return, label, call}
-use Rattle.grammar.specs.Grammar.{Load as LoadTree, number_loaded, bit_loaded, word_loaded, bracket_loaded, Ops, no_more, apply_then, Operand as OperandTree, number_taken, bit_taken, word_taken, bracket_taken, Act, bit_stored, word_stored, switched, called, Comparand as ComparandTree, with_number, with_word, Test as TestTree, bit_tested, compared, Command, loading, applying, acting, choosing, Cmds, done, and_then, Alternative, no_else, else_do, Module, module_of, closing, spell_load, spell_ops, spell_operand, spell_act, spell_test, spell_command, spell_cmds, spell_alternative, spell_modules, spell}
+use Rattle.tokens.specs.Tokens.{Kind, bracket_closes, end_of_condition, end_of_level, return}
+use Rattle.grammar.specs.Grammar.{Load as LoadTree, number_loaded, bit_loaded, word_loaded, bracket_loaded, Ops, no_more, apply_then, Operand as OperandTree, number_taken, bit_taken, word_taken, bracket_taken, Act, bit_stored, word_stored, switched, called, with_number, with_word, Test as TestTree, bit_tested, compared, Command, loading, applying, acting, choosing, Cmds, done, and_then, Alternative, no_else, else_do, Module, module_of, closing, spell_load, spell_ops, spell_operand, spell_act, spell_test, spell_command, spell_cmds, spell_alternative, spell_modules}
 use Rattle.program.specs.declared.instruction.Join.{Join}
 use Rattle.program.specs.declared.instruction.Join.TheVariants.{Replace, With}
 use Rattle.program.specs.declared.instruction.Check.{Check}
 use Rattle.program.specs.declared.instruction.Instruction.{Instruction}
 use Rattle.program.specs.declared.instruction.Instruction.TheVariants.{Return, Open, Close, Test, Skip, Call}
-use Rattle.meaning.specs.Code.{bracket_code, guarded, load_code, ops_code, operand_code, check_of, act_code, command_code, commands_code, choice_code, size, place_from, module_code, code_from, code, place_of}
+use Rattle.meaning.specs.Code.{bracket_code, guarded, load_code, ops_code, operand_code, check_of, act_code, command_code, commands_code, choice_code, size, place_from, module_code, code_from}
 use Rattle.meaning.proofs.Sound.{length_commands}
-use Rattle.emission.specs.declared.parts.Pending.{Pending}
-use Rattle.emission.specs.declared.parts.Pending.TheVariants.{Nothing, Operand, Comparand}
-use Rattle.emission.specs.Emission.{branch, place_in, opening, instructions, emitted}
+use Rattle.emission.specs.declared.parts.Pending.TheVariants.{Nothing, Operand}
+use Rattle.emission.specs.Emission.{branch, place_in, instructions}
 use Rattle.emission.specs.Claims.{CodeByTokens, PlacesByTokens}
 
 -- how many instructions a run of commands has

@@ -1,11 +1,11 @@
 -- Every history of the machine is lawful. Assumes nothing.
-use Rattle.std.proofs.Common.{◌≡◌, ℕ, ◌+◌, ◌%◌, ◌<◌, ◌≤◌, Bool, true, false, cond, List, [], ◌∷◌, ◌++◌, sym, refl, ap, ◌∙◌, subst, zero-add, arith}
+use Rattle.std.proofs.Common.{◌≡◌, ℕ, ◌+◌, ◌%◌, Bool, true, false, cond, List, [], ◌∷◌, ◌++◌, sym, refl, ap, ◌∙◌, subst, zero-add, arith}
 use Rattle.program.specs.Cells.{Sight}
 use Rattle.machine.specs.Plan.{Plan, Bounded}
 use Rattle.machine.specs.Machine.{Phase, State, made, Call, risen, spent_at, sight_of, next, answer, after}
 use Rattle.machine.specs.Histories.{Event, calls, history, is_refused, says_opened, panel_after, openings, phase_since, seen_since}
 use Rattle.machine.specs.Laws.{Follows, state, TurnLaw, EventLaw, PanelLaw, Lawful}
-use Rattle.machine.specs.Claims.{MachineIsLawful, OneMore, Goes_on}
+use Rattle.machine.specs.Claims.{MachineIsLawful, Goes_on}
 use Rattle.machine.proofs.Steps.{event_did, event_besides, display_stays}
 use Rattle.machine.proofs.Turns.{by_answer, told, told_with, opens_iff, scans_iff, slices_iff, closes_iff}
 use Rattle.machine.proofs.Panels.{opening_leaves, closing_leaves, closing_puts}

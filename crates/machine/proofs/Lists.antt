@@ -1,13 +1,13 @@
 -- The plan of a list is bounded. Assumes nothing.
-use Rattle.std.proofs.Common.{◌≡◌, ℕ, ◌+◌, ◌<◌, ◌≤◌, Bool, true, false, cond, eqb, List, [], ◌∷◌, ◌++◌, length, sym, refl, ap, ◌∙◌, subst, arith, length-append}
+use Rattle.std.proofs.Common.{ℕ, ◌<◌, eqb, List, [], ◌∷◌, length, arith, length-append}
 use Rattle.std.proofs.lemmas.Bool.{cond_both}
 use Rattle.grammar.specs.Grammar.{Module, module_of}
 use Rattle.program.specs.Cells.{Sight, State}
 use Rattle.meaning.specs.Meaning.{Trail, last, unchanged, thence, commands_trail, meanings}
 use Rattle.meaning.specs.Passes.{beginning}
 use Rattle.meaning.proofs.Bound.{within_figure}
-use Rattle.machine.specs.Plan.{Bounded, outset}
-use Rattle.machine.specs.Lists.{sight_in, plan_of, ListsBounded}
+use Rattle.machine.specs.Plan.{outset}
+use Rattle.machine.specs.Lists.{sight_in, ListsBounded}
 
 some_thence : (f : Trail) (s : State) → 0 < length (thence f unchanged s)
 some_thence f s = omega (arith, length-append (f s) (last s (f s) ∷ []))

@@ -1,7 +1,7 @@
 -- What opening and closing do to a panel. Assumes nothing.
-use Rattle.std.proofs.Common.{◌≡◌, ℕ, zero, suc, ◌+◌, ◌*◌, ◌/◌, ◌%◌, ◌^◌, ◌<◌, ◌≤◌, Bool, true, false, cond, ◌&&◌, eqb, ltb, List, length, get_or, Some, None, Option, sym, refl, ap, ◌∙◌, subst, arith}
+use Rattle.std.proofs.Common.{◌≡◌, ℕ, zero, suc, ◌+◌, ◌*◌, ◌/◌, ◌%◌, ◌<◌, ◌≤◌, Bool, true, false, cond, ◌&&◌, eqb, ltb, List, get_or, Some, None, Option, refl, ap, ◌∙◌, subst, arith}
 use Rattle.std.proofs.lemmas.Bool.{both_ways, cond_both}
-use Rattle.panel.specs.Meaning.{Meaning, with_output, after_put, first_silent, after_puts, mask_of, placed}
+use Rattle.panel.specs.Meaning.{Meaning, with_output, after_put, first_silent, after_puts, mask_of}
 use Rattle.panel.proofs.Steps.{below, length_after}
 use Rattle.program.specs.Cells.{bit_of_byte, pair_at}
 use Rattle.machine.specs.Plan.{Plan}

@@ -1,10 +1,9 @@
 -- What one call does, by the kinds of call. Assumes nothing.
-use Rattle.std.proofs.Common.{◌≡◌, ℕ, ◌+◌, ◌-◌, ◌%◌, ◌<◌, ◌≤◌, Bool, true, false, cond, ◌&&◌, eqb, ltb, ◌⊎◌, List, [], ◌∷◌, length, get_or, Some, None, Option, sym, refl, ap, ◌∙◌, subst, inl, inr, arith}
+use Rattle.std.proofs.Common.{◌≡◌, ℕ, ◌+◌, ◌-◌, ◌<◌, ◌≤◌, Bool, true, false, cond, ◌&&◌, eqb, ltb, length, Some, None, Option, sym, refl, ap, ◌∙◌, subst, arith}
 use Rattle.std.proofs.lemmas.Bool.{cond_both, both_ways, ltb-true, ltb-false, eqb-true, eqb-false}
 use Rattle.panel.specs.Meaning.{Meaning, first_silent}
-use Rattle.program.specs.Cells.{Sight}
 use Rattle.machine.specs.Plan.{Picture, Plan, Bounded, outcome_of}
-use Rattle.machine.specs.Machine.{Sweep, no_sweep, under_way, State, Call, opening, quick_scan, slow_slice, closing, show_byte, show_timer, show_sweep, show_working, Fault, Answer, opened_as, scanned_as, sliced, closed, shown, sweep_shown, refused, refused_at, refused_over, out_of_turn, is_idle, is_opened, is_scanned, risen, opening_of, in_turn, picture_of, picture_at, spent_at, published, with_sweep, swept, sight_of, closing_of, scan_by, slice_of, sliced_by, sweep_view, outcome, next, answer}
+use Rattle.machine.specs.Machine.{Sweep, no_sweep, under_way, State, Call, opening, quick_scan, slow_slice, closing, show_byte, show_timer, show_sweep, show_working, Fault, Answer, opened_as, sliced, sweep_shown, refused, refused_at, refused_over, out_of_turn, is_idle, is_opened, is_scanned, risen, opening_of, in_turn, picture_at, spent_at, published, with_sweep, swept, sight_of, closing_of, scan_by, slice_of, sweep_view, outcome, next, answer}
 use Rattle.machine.specs.Histories.{Event, is_refused, slice_steps, says_ended, scan_steps, says_opened, says_scanned, phase_by, allowance_of, is_display, read_by}
 
 -- an answer that no slice gave

@@ -1,11 +1,11 @@
 -- Sweeps among the events of a history. Assumes nothing.
-use Rattle.std.proofs.Common.{◌≡◌, ℕ, ◌+◌, ◌-◌, ◌%◌, ◌<◌, ◌≤◌, min, Bool, true, false, cond, ◌⊎◌, ◌↔◌, List, [], ◌∷◌, ◌++◌, length, get_or, sym, refl, ap, ◌∙◌, subst, inl, inr, append_assoc, append-nil, arith}
+use Rattle.std.proofs.Common.{◌≡◌, ℕ, ◌+◌, ◌<◌, ◌≤◌, min, true, false, cond, ◌⊎◌, ◌↔◌, List, [], ◌∷◌, ◌++◌, length, get_or, sym, refl, ap, ◌∙◌, subst, inl, inr, append_assoc, append-nil, arith}
 use Rattle.std.proofs.lemmas.Bool.{both_ways, cond-true, lt-ltb}
 use Rattle.machine.specs.Plan.{Picture, Plan, Bounded, moment_after, outcome_of}
-use Rattle.machine.specs.Machine.{no_sweep, under_way, State, made, Call, show_sweep, show_working, Answer, shown, sweep_shown, picture_of, picture_at, spent_at, published, sweep_view, working_bytes, next, answer, after}
+use Rattle.machine.specs.Machine.{no_sweep, under_way, State, made, Call, show_sweep, show_working, shown, sweep_shown, picture_of, picture_at, spent_at, published, sweep_view, working_bytes, next, answer, after}
 use Rattle.machine.specs.Histories.{Event, calls, allowance_of, allowance, steps, ended, allowances, all_steps, NoneEnded, since_end, BeginsSweep, OneSweep, OfOneSweep}
 use Rattle.machine.specs.Laws.{Follows, state, SweepLaw}
-use Rattle.machine.proofs.Steps.{Did, nothing, went, finished, EventDid, event_did}
+use Rattle.machine.proofs.Steps.{nothing, went, finished, EventDid, event_did}
 
 -- ---- histories in parts
 since-++ : (k : ℕ) (a b : List Event) → since_end k (a ++ b) ≡ since_end (since_end k a) b

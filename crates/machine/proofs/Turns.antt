@@ -6,7 +6,7 @@ use Rattle.machine.specs.Plan.{Plan}
 use Rattle.machine.specs.Machine.{Phase, idle, opened, scanned, State, opening, quick_scan, slow_slice, closing, Fault, Answer, opened_as, refused, refused_over, is_idle, is_opened, is_scanned, opening_of, in_turn, picture_at, spent_at, next, answer}
 use Rattle.machine.specs.Histories.{is_refused, says_opened}
 use Rattle.machine.specs.Laws.{AllAnswer}
-use Rattle.machine.specs.Claims.{Turn, Accepts, IntervalGoes, IntervalsGo}
+use Rattle.machine.specs.Claims.{Turn, Accepts, IntervalsGo}
 
 -- an accepted call, after which it is the turn of p
 record Goes (p : Phase) (ticket : ℕ) (r : State × Answer) : Type 0 where

@@ -2,7 +2,7 @@
 use Rattle.std.specs.Prelude.{◌≡◌, ℕ, false, List, [], ◌∷◌, ◌++◌}
 use Rattle.panel.specs.Meaning.{Meaning}
 use Rattle.machine.specs.Plan.{Plan, Bounded}
-use Rattle.machine.specs.Machine.{Phase, idle, opened, scanned, State, made, Call, opening, quick_scan, slow_slice, closing, Answer, opened_as, next, answer}
+use Rattle.machine.specs.Machine.{Phase, idle, opened, scanned, State, made, Call, opening, quick_scan, slow_slice, closing, opened_as, next, answer}
 use Rattle.machine.specs.Histories.{Event, history, is_refused}
 use Rattle.machine.specs.Laws.{state, Lawful}
 

@@ -1,5 +1,5 @@
 -- The plan of a list of modules. Names no type of the code.
-use Rattle.std.specs.Prelude.{ℕ, List}
+use Rattle.std.specs.Prelude.{List}
 use Rattle.grammar.specs.Grammar.{Module}
 use Rattle.program.specs.Cells.{Sight}
 use Rattle.meaning.specs.Meaning.{trail}

@@ -1,5 +1,5 @@
 -- A run of a compiled list goes as far along its trail as it is allowed. Assumes nothing.
-use Rattle.std.proofs.Common.{◌≡◌, ℕ, ◌<◌, ◌≤◌, min, Bool, true, false, eqb, leb, ◌⊎◌, List, [], ◌∷◌, ◌++◌, length, get_or, sym, refl, ap, ◌∙◌, subst, inl, inr, arith, eqb-true}
+use Rattle.std.proofs.Common.{◌≡◌, ℕ, ◌<◌, ◌≤◌, min, Bool, true, false, eqb, leb, List, [], ◌++◌, length, sym, refl, ap, ◌∙◌, subst, inl, inr, arith, eqb-true}
 use borrow.Author.Tests.{eqb-false}
 use Rattle.std.proofs.lemmas.Bool.{eq-eqb, le-leb, lt-leb, cases_lt, false≢true}
 use Rattle.grammar.specs.Grammar.{Module}
@@ -9,7 +9,7 @@ use Rattle.program.specs.Machine.{Config, going, ticks}
 use Rattle.program.specs.View.{state}
 use Rattle.meaning.specs.declared.pass.Pass.{Pass}
 use Rattle.meaning.specs.Meaning.{trail}
-use Rattle.meaning.specs.Code.{code, place_of}
+use Rattle.meaning.specs.Code.{code}
 use Rattle.meaning.specs.Claims.{Reached}
 use Rattle.meaning.specs.Passes.{Went, Compiled, Meant}
 use Rattle.meaning.proofs.Sound.{runs_as_meant}

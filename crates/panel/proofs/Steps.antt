@@ -1,11 +1,10 @@
 -- One word more of a sweep over the panel. Assumes nothing.
-use Rattle.std.proofs.Common.{◌≡◌, ℕ, zero, suc, ◌+◌, ◌-◌, ◌*◌, ◌%◌, ◌^◌, ◌<◌, ◌≤◌, Bool, true, false, cond, not, ltb, List, length, get_or, set, is_err, Some, None, Ok, Err, Option, Result, sym, refl, ap, ◌∙◌, ⊎_elim, add-one, arith}
+use Rattle.std.proofs.Common.{◌≡◌, ℕ, zero, suc, ◌+◌, ◌-◌, ◌*◌, ◌%◌, ◌^◌, ◌<◌, ◌≤◌, Bool, true, false, cond, not, ltb, List, length, get_or, set, is_err, Some, Ok, Err, Result, sym, refl, ap, ◌∙◌, ⊎_elim, add-one, arith}
 use Rattle.std.proofs.lemmas.List.{get_or-set_same, get_or-set_other, length-set}
 use Rattle.panel.specs.Meaning.{Meaning, with_output, after_put, first_silent, after_puts, mask_of, placed}
-use Rattle.std.proofs.lemmas.Bool.Decides.{nat_tests}
 use Rattle.std.proofs.lemmas.Bool.{cond-true, lt-ltb, true≢false, false≢true, cases_eq}
 use Rattle.panel.specs.declared.PanelFault.{PanelFault}
-use Rattle.panel.specs.declared.PanelFault.TheVariants.{Silent, NoSuchWord}
+use Rattle.panel.specs.declared.PanelFault.TheVariants.{Silent}
 use Rattle.panel.specs.Answers.{read_of, put_answer}
 use lib.Bits.{bit_or}
 use Rattle.std.proofs.lemmas.Nat.{or_comm, or_shifted, one_shl, pow-add}

@@ -1,5 +1,5 @@
 -- What a panel answers, by its meaning alone. Assumes nothing.
-use Rattle.std.specs.Prelude.{ℕ, Bool, false, cond, Ok, Err, Result, nat_lt, slice_index, slice_index_or}
+use Rattle.std.specs.Prelude.{ℕ, false, cond, Ok, Err, Result, nat_lt, slice_index, slice_index_or}
 use Rattle.panel.specs.declared.PanelFault.{PanelFault}
 use Rattle.panel.specs.declared.PanelFault.TheVariants.{NoSuchWord, Silent}
 use Rattle.panel.specs.Meaning.{Meaning}

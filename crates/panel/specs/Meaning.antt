@@ -1,5 +1,5 @@
 -- What a panel means: eight input words, eight output words, and which of the sixteen answer. Names no type of the code.
-use Rattle.std.specs.Prelude.{◌≡◌, ℕ, zero, suc, ◌+◌, ◌^◌, Bool, false, cond, List, map, length, set, Some, None, Option, nat_lt, slice_index, slice_index_or, slice_set}
+use Rattle.std.specs.Prelude.{◌≡◌, ℕ, zero, suc, ◌+◌, ◌^◌, Bool, false, cond, List, map, length, Some, None, Option, nat_lt, slice_index, slice_index_or, slice_set}
 use Rattle.std.specs.List.{range_with_len}
 
 pub record Meaning : Type 0 where

@@ -1,5 +1,5 @@
 -- The cells of a pass and their values. Assumes nothing.
-use Rattle.std.specs.Prelude.{ℕ, ◌+◌, ◌-◌, ◌*◌, ◌/◌, ◌%◌, ◌^◌, Bool, true, false, cond, not, List, set, ◌==◌, bit_and, bit_or, bit_xor, nat_le, nat_lt, slice_index, slice_set}
+use Rattle.std.specs.Prelude.{ℕ, ◌+◌, ◌-◌, ◌*◌, ◌/◌, ◌%◌, ◌^◌, Bool, true, cond, List, ◌==◌, bit_and, bit_or, bit_xor, nat_le, nat_lt, slice_index, slice_set}
 use Rattle.tokens.specs.declared.Area.{Area}
 use Rattle.tokens.specs.declared.Area.TheVariants.{Input, Output, Change, Internal}
 use Rattle.tokens.specs.declared.BitCell.{BitCell}

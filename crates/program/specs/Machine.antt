@@ -1,6 +1,5 @@
 -- The machine: what one instruction does, and what many do one after the other. Assumes nothing.
 use Rattle.std.specs.Prelude.{ℕ, zero, suc, ◌+◌, Bool, true, false, cond, List, [], ◌∷◌, length, ◌==◌, nat_lt, slice_index_or}
-use Rattle.tokens.specs.declared.Operator.{Operator}
 use Rattle.program.specs.declared.instruction.Source.{Source}
 use Rattle.program.specs.declared.instruction.Source.TheVariants.{Number, Bit, Word}
 use Rattle.program.specs.declared.instruction.Join.{Join}

@@ -5,7 +5,7 @@ use Rattle.scanning.specs.Text.{start, past, walk}
 use Rattle.scanning.specs.Pieces.{Piece, blank, remark, block, word, spelled, Cut, Spot, words_from}
 use Rattle.reading.specs.declared.ReadFault.{ReadFault}
 use Rattle.reading.specs.Items.{Item}
-use Rattle.reading.specs.Layout.{InPlace, EachInPlace, AllInPlace}
+use Rattle.reading.specs.Layout.{EachInPlace, AllInPlace}
 use Rattle.reading.specs.Verdict.{Tokens, Verdict}
 
 walk_append : (p : Place) (xs ys : List ℕ) → walk (walk p xs) ys ≡ walk p (xs ++ ys)

@@ -1,5 +1,5 @@
 -- What reading answers is the rules' verdict, and the only one. Assumes nothing.
-use Rattle.std.proofs.Common.{◌≡◌, ℕ, zero, suc, ◌+◌, ◌<◌, ◌≤◌, Bool, true, false, cond, leb, List, [], ◌∷◌, ◌++◌, length, get_or, take, drop, Ok, Err, Result, sym, refl, ap, ◌∙◌, subst, arith, leb-false, leb-true}
+use Rattle.std.proofs.Common.{◌≡◌, ℕ, zero, suc, ◌+◌, ◌<◌, Bool, true, false, cond, leb, List, [], ◌∷◌, ◌++◌, length, get_or, Ok, Err, Result, sym, refl, ap, ◌∙◌, arith, leb-false, leb-true}
 use Rattle.std.proofs.lemmas.List.{append-nil, length-append}
 use Rattle.std.proofs.lemmas.Bool.{cond-true, cond-false, le-leb, lt-leb}
 use Rattle.faults.specs.declared.Place.{Place}
@@ -17,7 +17,7 @@ use Rattle.tokens.proofs.Verdicts.{verdict_of as word_verdict, one_verdict as on
 use Rattle.reading.specs.declared.ReadFault.{ReadFault}
 use Rattle.reading.specs.declared.ReadFault.TheVariants.{Scan, Unlisted, OutOfRange, TooMany}
 use Rattle.reading.specs.Items.{Item, most, token_at, placed_at, before, joined, judged, judged_all, blank_item, capped, read_of}
-use Rattle.reading.specs.Verdict.{Tokens, FirstRefused, TooManyTokens, CutInto, Verdict, OneVerdict}
+use Rattle.reading.specs.Verdict.{Tokens, FirstRefused, Verdict, OneVerdict}
 
 -- what stands behind as many elements
 same_word : {A : Type 0} (xs ys : List A) (x y : A) (us vs : List A) → length xs ≡ length ys → xs ++ x ∷ us ≡ ys ++ y ∷ vs → x ≡ y

@@ -1,10 +1,9 @@
 -- Which answer the rules give for a text, in the order of the rules: the text is cut into words, each word is a token,
 -- and there are not too many. Nothing here says how a text is read. Assumes nothing.
-use Rattle.std.specs.Prelude.{◌≡◌, ℕ, ◌<◌, ◌≤◌, List, [], ◌∷◌, ◌++◌, length, Ok, Err, Result}
+use Rattle.std.specs.Prelude.{◌≡◌, ℕ, ◌≤◌, List, [], ◌∷◌, ◌++◌, length, Ok, Err, Result}
 use Rattle.faults.specs.declared.Place.{Place}
 use Rattle.scanning.specs.Pieces.{Spot}
 use Rattle.scanning.specs.Pieces.{Verdict as Scanned}
-use Rattle.tokens.specs.Tokens.{Kind}
 use Rattle.tokens.specs.Listed.{Listed, NotListed, Neighbour}
 use Rattle.reading.specs.declared.ReadFault.{ReadFault}
 use Rattle.reading.specs.declared.ReadFault.TheVariants.{Scan, Unlisted, OutOfRange, TooMany}

@@ -1,13 +1,13 @@
 -- Stores of both levels into one byte.
-use Rattle.std.proofs.Common.{◌≡◌, ℕ, ◌+◌, ◌<◌, ◌≤◌, Bool, true, false, ◌⊎◌, List, length, Decides, Option, sym, refl, ap, ◌∙◌, subst, inl, inr, arith}
+use Rattle.std.proofs.Common.{◌≡◌, ℕ, ◌+◌, ◌<◌, ◌≤◌, Bool, true, false, ◌⊎◌, List, length, Decides, Option, sym, ap, ◌∙◌, subst, inl, inr, arith}
 use Rattle.std.proofs.lemmas.Bool.Decides.{not_from_Decides}
 use Rattle.tokens.specs.Tokens.{Kind}
 use Rattle.rules.specs.declared.roles.Role.{Role}
 use Rattle.rules.specs.declared.roles.Role.TheVariants.{Store}
 use Rattle.rules.specs.Labels.{kind_at}
 use Rattle.rules.specs.Levels.{home, Level}
-use Rattle.rules.specs.Bytes.{Stores, Stored, Against, Clash}
-use Rattle.rules.specs.Tables.{role_of, Covers, CoversSome, Marks, lit, Touched, Meets}
+use Rattle.rules.specs.Bytes.{Stores, Against, Clash}
+use Rattle.rules.specs.Tables.{role_of, Covers, CoversSome, Marks, lit, Meets}
 use Rattle.rules.proofs.Seen.{covers_role}
 use Rattle.rules.proofs.Places.{inside}
 use Rattle.rules.proofs.Passes.{on_level}

@@ -1,11 +1,11 @@
 -- A pass over the text marks what marked modules call.
-use Rattle.std.proofs.Common.{◌≡◌, ℕ, zero, suc, ◌+◌, ◌<◌, ◌≤◌, Bool, true, false, cond, ◌⊎◌, List, [], ◌∷◌, length, get_or, set, replicate, Some, None, Decides, Option, sym, refl, ap, ◌∙◌, subst, inl, inr, arith, length-set, get_or-set_other, get_or-set_same, below_more}
+use Rattle.std.proofs.Common.{◌≡◌, ℕ, zero, suc, ◌+◌, ◌<◌, ◌≤◌, Bool, true, false, ◌⊎◌, List, [], ◌∷◌, length, get_or, set, replicate, Some, None, Decides, Option, sym, refl, ap, ◌∙◌, subst, inl, inr, arith, length-set, get_or-set_other, get_or-set_same, below_more}
 use lib.ListN.{length-replicate}
 use Rattle.std.proofs.lemmas.Bool.{cases_lt, cases_eq, both_ways}
 use Rattle.std.proofs.lemmas.List.{get_or_past, get_or-replicate}
 use Rattle.tokens.specs.Tokens.{Kind, call}
 use Rattle.rules.specs.Labels.{kind_at}
-use Rattle.rules.specs.Levels.{after, home, Calls, Reaches, itself, through, Level}
+use Rattle.rules.specs.Levels.{after, home, Reaches, itself, through, Level}
 use Rattle.rules.specs.Tables.{On, Marks, lit, unmarked, Spread}
 use Rattle.rules.proofs.Places.{call_inside, home_more, lit_at}
 

@@ -1,5 +1,5 @@
 -- Places of a text: labels, calls, and the module of a token.
-use Rattle.std.proofs.Common.{◌≡◌, ℕ, zero, suc, ◌+◌, ◌<◌, ◌≤◌, Bool, true, false, ◌⊎◌, List, length, get_or, Some, None, Decides, Option, sym, refl, ap, ◌∙◌, subst, inl, inr, add-one, arith, below_more}
+use Rattle.std.proofs.Common.{◌≡◌, ℕ, zero, suc, ◌+◌, ◌<◌, ◌≤◌, Bool, true, false, ◌⊎◌, List, length, Some, None, Decides, Option, sym, refl, ap, ◌∙◌, subst, inl, inr, add-one, arith, below_more}
 use Rattle.std.proofs.lemmas.Bool.{cases_lt, cases_eq}
 use Rattle.std.proofs.lemmas.List.{get_or_past}
 use Rattle.std.proofs.lemmas.Bool.Decides.{not_from_Decides}
@@ -8,7 +8,7 @@ use Rattle.reading.specs.declared.Placed.{Placed}
 use Rattle.rules.specs.declared.roles.Role.{Role}
 use Rattle.rules.specs.declared.roles.Role.TheVariants.{Label, Call}
 use Rattle.rules.specs.Findings.{NoneAt, First}
-use Rattle.rules.specs.Labels.{kinds_of, kind_at, Labelled, Repeats, Astray, Rootless, Unlinked}
+use Rattle.rules.specs.Labels.{kinds_of, kind_at, Labelled, Repeats, Unlinked}
 use Rattle.rules.specs.Levels.{after, home}
 use Rattle.rules.specs.Laws.{CallsGoDown, CallsLand, LastLabel, HomeIsLastLabel}
 use Rattle.rules.specs.Tables.{role_of, lit}

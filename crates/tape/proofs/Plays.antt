@@ -3,9 +3,9 @@ use Rattle.std.proofs.Common.{◌≡◌, ℕ, zero, suc, ◌+◌, ◌-◌, ◌*�
 use Rattle.std.proofs.lemmas.List.{drop-drop, take_at, drop_at}
 use Rattle.std.proofs.lemmas.Bool.{cond-true, cond-false, lt-ltb, le-ltb, le-leb, lt-leb, cases_lt}
 use Rattle.tape.specs.Fields.{line_says}
-use Rattle.tape.specs.Format.{Entry, silent, Line, AllLines, IsTape, line_bytes, tape_bytes}
-use Rattle.tape.specs.Says.{State, line_at, start, said, meant, state_meaning}
-use Rattle.tape.specs.Verdict.{nth_line, moves, Plays, EveryTapePlays}
+use Rattle.tape.specs.Format.{Entry, silent, AllLines, IsTape, line_bytes, tape_bytes}
+use Rattle.tape.specs.Says.{line_at, start, said, meant, state_meaning}
+use Rattle.tape.specs.Verdict.{nth_line, moves, EveryTapePlays}
 use Rattle.tape.proofs.Lines.{line_back, length_line}
 use Rattle.tape.proofs.Tapes.{length_tape}
 

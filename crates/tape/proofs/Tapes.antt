@@ -1,12 +1,12 @@
 -- Tapes are accepted as they are written, and refused at the first bad line. Assumes nothing.
-use Rattle.std.proofs.Common.{◌≡◌, ℕ, zero, suc, ◌+◌, ◌-◌, ◌*◌, ◌/◌, ◌%◌, ◌<◌, ◌≤◌, Bool, true, false, cond, eqb, leb, ◌⊎◌, List, [], ◌∷◌, ◌++◌, length, take, drop, Some, None, Ok, Err, Option, Result, sym, refl, ap, ◌∙◌, subst, inl, inr, ⊎_elim, arith}
+use Rattle.std.proofs.Common.{◌≡◌, ℕ, zero, suc, ◌+◌, ◌-◌, ◌*◌, ◌/◌, ◌%◌, ◌<◌, ◌≤◌, true, false, cond, eqb, leb, ◌⊎◌, List, [], ◌∷◌, ◌++◌, length, take, drop, Some, None, Ok, Err, Option, Result, sym, refl, ap, ◌∙◌, inl, inr, ⊎_elim, arith}
 use Rattle.std.proofs.lemmas.List.{append_assoc, append-nil, drop-drop, take-append-drop, take_at, drop_at, length-append, length-take-le, length-drop, nil_from_length}
 use Rattle.std.proofs.lemmas.Bool.{true≢false, cases_Bool, cond_both, cond-true, cond-false, le-leb, lt-leb, leb-true, leb-false, eq-eqb, ne_eqb, eqb-true, eqb-false}
 use Rattle.tape.specs.declared.TapeFault.{TapeFault}
 use Rattle.tape.specs.declared.TapeFault.TheVariants.{Length, Line}
 use Rattle.tape.specs.Fields.{line_holds, line_says}
 use Rattle.tape.specs.Format.{Entry, Line as GoodLine, AllLines, IsTape, line_bytes, tape_bytes}
-use Rattle.tape.specs.Says.{State, first_bad, unless_bad, check_of, start, started, opened}
+use Rattle.tape.specs.Says.{State, first_bad, unless_bad, check_of, started, opened}
 use Rattle.tape.specs.Verdict.{BadAfter, Verdict, OneVerdict}
 use Rattle.tape.proofs.Lines.{line_read, line_written, line_back, length_line}
 

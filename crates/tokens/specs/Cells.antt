@@ -1,5 +1,5 @@
 -- References to cells, by shape and range. Assumes nothing.
-use Rattle.std.specs.Prelude.{ℕ, ◌+◌, ◌*◌, ◌/◌, ◌%◌, Bool, true, cond, ◌&&◌, List, length, drop, Some, None, Ok, Err, Option, Result, ◌==◌, nat_le, slice_index}
+use Rattle.std.specs.Prelude.{ℕ, ◌+◌, ◌*◌, ◌/◌, ◌%◌, Bool, true, cond, ◌&&◌, List, length, drop, Some, None, Err, Option, Result, ◌==◌, nat_le, slice_index}
 use Rattle.tokens.specs.declared.WordFault.{WordFault}
 use Rattle.tokens.specs.declared.WordFault.TheVariants.{Unlisted}
 use Rattle.tokens.specs.declared.Area.{Area}

@@ -1,6 +1,6 @@
 -- The tokens of the language as they are listed: which bytes are which token, and when a word that is none is out of range.
 -- Nothing here says how a word is looked up. Assumes nothing.
-use Rattle.std.specs.Prelude.{◌≡◌, ℕ, ◌+◌, ◌*◌, ◌≤◌, Bool, true, false, cond, ◌⊎◌, List, [], ◌∷◌, ◌++◌, length, Some, Ok, Err, Result, ◌≢◌}
+use Rattle.std.specs.Prelude.{◌≡◌, ℕ, ◌+◌, ◌*◌, ◌≤◌, Bool, true, cond, ◌⊎◌, List, [], ◌∷◌, ◌++◌, length, Some, Ok, Err, Result, ◌≢◌}
 use Rattle.tokens.specs.declared.WordFault.{WordFault}
 use Rattle.tokens.specs.declared.WordFault.TheVariants.{Unlisted, OutOfRange}
 use Rattle.tokens.specs.declared.Area.{Area}

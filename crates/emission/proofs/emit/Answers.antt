@@ -1,6 +1,5 @@
-use Rattle.std.proofs.Common.{◌≡◌, ℕ, ◌+◌, Bool, true, false, cond, Some, None, Option, sym, ap, ◌∙◌}
+use Rattle.std.proofs.Common.{sym}
 use Rattle.grammar.specs.Verdict.{kinds_of}
-use Rattle.emission.specs.Emission.{total, emitted}
 use Rattle.emission.proofs.Fills.{fits_few, fits_total, written, refused_length, refused_code, made_length}
 use Rattle.emission.proofs.Trees.{code_by_tokens}
 use Rattle.emission.proofs.Soundness.{sound_code}

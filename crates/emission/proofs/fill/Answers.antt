@@ -1,4 +1,4 @@
-use Rattle.std.proofs.Common.{◌≡◌, ◌+◌, drop, sym, ap, ◌∙◌, arith}
+use Rattle.std.proofs.Common.{◌+◌, drop, sym, ap, ◌∙◌, arith}
 use Rattle.grammar.specs.Verdict.{kinds_of}
 use Rattle.emission.specs.Emission.{made}
 use Rattle.emission.proofs.Fills.{filled_as, filled_some, filled_none, filled_all, counted_all}

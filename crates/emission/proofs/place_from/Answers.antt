@@ -1,4 +1,4 @@
-use Rattle.std.proofs.Common.{sym, arith}
+use Rattle.std.proofs.Common.{arith}
 use Rattle.emission.proofs.Turns.{found, sought_more, sought_all}
 use Rattle.emission.proofs.place_from.Goals as goal
 

@@ -1,4 +1,4 @@
-use Rattle.std.proofs.Common.{◌≡◌, ◌+◌, ◌<◌, [], ◌∷◌, map, length, take, Ok, sym, ap, ◌∙◌, subst, arith, length-set}
+use Rattle.std.proofs.Common.{◌≡◌, ◌+◌, ◌<◌, map, length, take, Ok, sym, ap, ◌∙◌, arith, length-set}
 use Rattle.scanning.proofs.Turns.{Turn, left_of, turned, spot_of}
 use Rattle.reading.specs.Items.{item, shown, spot, token_at, before, judged_all}
 use Rattle.reading.proofs.Rows.{judged_more, no_room, row_length, stored, left_behind}

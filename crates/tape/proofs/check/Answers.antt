@@ -1,4 +1,4 @@
-use Rattle.std.proofs.Common.{Some, None, sym, ap, ◌∙◌, inl, inr, arith}
+use Rattle.std.proofs.Common.{Some, None, inl, inr, arith}
 use Rattle.tape.proofs.Tapes.{check_long, check_short}
 use Rattle.tape.proofs.check.Goals as goal
 use Rattle.tape.proofs.check.Goals.{then-bytes-gt-LONGEST-via-then-bytes-gt-LONGEST, then-bytes-gt-LONGEST-via-else-bytes-gt-LONGEST+then-bytes-ne0}

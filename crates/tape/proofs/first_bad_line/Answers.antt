@@ -1,4 +1,4 @@
-use Rattle.std.proofs.Common.{◌≡◌, ◌+◌, ◌-◌, ◌*◌, ◌/◌, length, take, drop, sym, refl, ap, ◌∙◌, arith}
+use Rattle.std.proofs.Common.{◌≡◌, ◌+◌, ◌-◌, ◌*◌, ◌/◌, length, take, drop, sym, ap, ◌∙◌, arith}
 use Rattle.tape.specs.Fields.{line_holds}
 use Rattle.tape.specs.Says.{first_bad}
 use Rattle.tape.proofs.Tapes.{bad_more, bad_here}

@@ -1,4 +1,4 @@
-use Rattle.std.proofs.Common.{◌≡◌, ◌+◌, ◌^◌, ◌<◌, true, false, cond, not, length, get_or, sym, refl, ap, ◌∙◌, arith, lit≤}
+use Rattle.std.proofs.Common.{◌≡◌, ◌+◌, ◌^◌, ◌<◌, false, cond, not, length, get_or, sym, ap, ◌∙◌, arith, lit≤}
 use Rattle.panel.specs.Meaning.{Meaning, after_put, after_puts, mask_of}
 use Rattle.panel.proofs.Steps.{after_puts_more, mask_more, put_silent, answers_kept, mask_silent, mask_answers, length_after, below}
 use Rattle.panel.proofs.sweeps.put_all.Goals as goal

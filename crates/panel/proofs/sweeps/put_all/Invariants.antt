@@ -1,4 +1,4 @@
-use Rattle.std.proofs.Common.{◌≡◌, ℕ, ◌^◌, ◌<◌}
+use Rattle.std.proofs.Common.{◌≡◌, ◌^◌, ◌<◌}
 use Rattle.panel.specs.Meaning.{Sized, after_puts, mask_of}
 use Rattle.panel.proofs.sweeps.put_all.Given as goal
 

@@ -1,4 +1,4 @@
-use Rattle.std.proofs.Common.{◌≡◌, ◌+◌, ◌-◌, ◌*◌, ◌/◌, ◌≤◌, length, take, drop, sym, ap, ◌∙◌, inl, inr, arith}
+use Rattle.std.proofs.Common.{◌≡◌, ◌+◌, ◌-◌, ◌*◌, ◌/◌, ◌≤◌, length, take, drop, ap, ◌∙◌, inl, inr, arith}
 use Rattle.tape.specs.Fields.{field_of, entry_of}
 use Rattle.tape.proofs.Calls.{outside, inside}
 use Rattle.tape.proofs.Tape.field.Goals as goal
