@@ -201,7 +201,7 @@ fn refuses(
 ) -> Result<(), Fail> {
     let mut memory = [Placed::blank(); 2048];
     match parse(text, &mut memory) {
-        Ok(_) => Err(Fail::new("accepted")),
+        Ok(_) => Err(Fail::new(format_args!("row {row} is accepted"))),
         Err(fault) => {
             assert_eq!(rt; fault.cause(), cause, "row {row}");
             let layer = if cause > 6 {
@@ -223,7 +223,7 @@ fn accepts(rt: &impl Abort, row: usize, text: &[u8], modules: usize) -> Result<(
             assert_eq!(rt; shape.modules, modules, "row {row}");
             Ok(())
         }
-        Err(_) => Err(Fail::new("refused")),
+        Err(_) => Err(Fail::new(format_args!("row {row} is refused"))),
     }
 }
 

@@ -148,7 +148,7 @@ fn refuses(
 ) -> Result<(), Fail> {
     let mut memory = [Placed::blank(); 2048];
     match read(text, &mut memory) {
-        Ok(_) => Err(Fail::new("read")),
+        Ok(_) => Err(Fail::new(format_args!("row {row} is read"))),
         Err(fault) => {
             assert_eq!(rt; fault.cause(), cause, "row {row}");
             assert!(rt; fault.layer() == Layer::Reading, "row {row}");
@@ -165,7 +165,7 @@ fn reads(rt: &impl Abort, row: usize, text: &[u8], tokens: usize) -> Result<(), 
             assert_eq!(rt; n, tokens, "row {row}");
             Ok(())
         }
-        Err(_) => Err(Fail::new("refused")),
+        Err(_) => Err(Fail::new(format_args!("row {row} is refused"))),
     }
 }
 

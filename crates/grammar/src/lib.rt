@@ -1,7 +1,7 @@
 // The grammar of the list language: whether a text is a list of modules, and where not, the first fault.
 #![tactic(auto)]
 
-ghost use Rattle.std.specs.Prelude.{◌≡◌, ◌<◌, ◌≤◌, [], map, length, get_or, slice_index_or};
+ghost use Rattle.std.specs.Prelude.{◌≡◌, ◌<◌, ◌≤◌, [], map, length, slice_index_or};
 ghost use Rattle.scanning.specs.Text.{longest, start, walk};
 ghost use Rattle.reading.specs.Items.{item, blank_item};
 ghost use Rattle.stack.specs.Entries.{entries, room};
@@ -121,7 +121,7 @@ fn placed_at<'a>(tokens: &[Placed<'a>], i: usize) -> Placed<'a>
 // The place of the token at `i`.
 fn place_at(tokens: &[Placed], i: usize) -> Place
     requires { i < length tokens.now }
-    ensures { result ≡ (get_or (map item tokens.now) i blank_item).place }
+    ensures { result ≡ (slice_index_or (map item tokens.now) i blank_item).place }
 {
     placed_at(tokens, i).place
 }

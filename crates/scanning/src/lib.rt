@@ -110,8 +110,8 @@ fn ended(mode: Mode, here: Cursor) -> Result<Cursor, ScanFault>
 
 // Past white space and comments.
 fn skip(text: &[u8], from: Cursor) -> Result<Cursor, ScanFault>
-    requires within_2 { Within text.now from }
-    requires text_len_bound { length text.now ≤ longest }
+    requires cursor { Within text.now from }
+    requires short_enough { length text.now ≤ longest }
     ensures is { skipped text.now result ≡ skip_of Between from.place (drop from.at text.now) }
     ensures within { IfOk result (λ c. (from.at ≤ c.at) × Within text.now c) }
 {
@@ -172,8 +172,8 @@ fn word_len(text: &[u8], at: usize) -> usize
 
 // The next word, and the cursor behind it.
 fn word_from<'a>(text: &'a [u8], from: Cursor) -> Result<Option<(Word<'a>, Cursor)>, ScanFault>
-    requires within { Within text.now from }
-    requires text_len_bound { length text.now ≤ longest }
+    requires cursor { Within text.now from }
+    requires short_enough { length text.now ≤ longest }
     ensures is { told text.now result ≡ next_of from.place (drop from.at text.now) }
     ensures goes { Goes text.now from.at result }
 {
