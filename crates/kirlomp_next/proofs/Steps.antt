@@ -1,8 +1,8 @@
 -- One byte more of a line. Assumes nothing.
-use Rattle.std.proofs.Common.{◌≡◌, ℕ, ◌+◌, ◌-◌, ◌<◌, ◌≤◌, true, false, cond, eqb, leb, List, length, get_or, drop, refl, ap, ◌∙◌}
+use Rattle.std.proofs.Common.{◌≡◌, ℕ, ◌+◌, ◌-◌, ◌<◌, ◌≤◌, cond, eqb, List, length, get_or, drop, ap, ◌∙◌}
 use Rattle.std.proofs.lemmas.List.{drop_more}
 use Rattle.std.proofs.lemmas.Bool.{cond-true, cond-false, le-leb, lt-leb, eq-eqb, ne_eqb}
-use Rattle.kirlomp.specs.Lines.{line_start, line_length}
+use Rattle.kirlomp_next.specs.Lines.{line_start, line_length}
 
 module _ (line : ℕ) (xs : List ℕ) (i : ℕ) (h : i < length xs) where
   pub start_here : line ≤ 1 → line_start line (drop i xs) ≡ 0

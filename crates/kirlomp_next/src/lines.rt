@@ -1,6 +1,6 @@
 // The lines of a text.
 ghost use Rattle.std.specs.Prelude.{◌≡◌, ◌+◌, ◌-◌, ◌≤◌, min, length, drop, if◌then◌else◌, nat_eq};
-ghost use Rattle.kirlomp.specs.Lines.{line_start, line_length, line_of};
+ghost use Rattle.kirlomp_next.specs.Lines.{line_start, line_length, line_of};
 
 // How many lines are left behind a byte.
 fn lines_left(left: u32, b: u8) -> u32

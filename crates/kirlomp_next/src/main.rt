@@ -10,10 +10,10 @@ mod message;
 mod passes;
 mod tapes;
 
-use anyhow::anyhow;
 use check::check_files;
 use passes::show_files;
 use std::alloc::{AllocError, Global};
+use std::process::ExitCode;
 use std::{env, io};
 use tapes::{check_tapes, make_tape};
 
@@ -83,12 +83,12 @@ fn command_of(heap: Global, mut args: env::Args) -> Result<Command, AllocError> 
     }
 }
 
-// An `Err` that says nothing more: all has been printed.
-fn ended(all_well: bool) -> anyhow::Result<()> {
+// The exit status. All has been printed.
+fn ended(all_well: bool) -> ExitCode {
     if all_well {
-        Ok(())
+        ExitCode::SUCCESS
     } else {
-        Err(anyhow!("refused"))
+        ExitCode::FAILURE
     }
 }
 
@@ -113,8 +113,8 @@ fn run(rt: &HostRuntime, command: Command) -> Result<bool, io::Error> {
     }
 }
 
-fn main(rt: HostRuntime) -> anyhow::Result<()> {
+fn main(rt: HostRuntime) -> anyhow::Result<ExitCode> {
     let args = env::args(&rt)?;
     let command = command_of(rt.alloc(), args)?;
-    ended(run(&rt, command)?)
+    Ok(ended(run(&rt, command)?))
 }

@@ -1,13 +1,13 @@
 -- The program of a list takes its code. Assumes nothing.
-use Rattle.std.proofs.Common.{◌≡◌, ℕ, zero, suc, ◌+◌, ◌-◌, ◌<◌, ◌≤◌, Bool, true, false, cond, ltb, leb, List, [], ◌∷◌, ◌++◌, length, get_or, take, drop, Some, None, Option, sym, refl, ap, ◌∙◌, subst, arith, length-append, ltb-true, leb-true}
+use Rattle.std.proofs.Common.{◌≡◌, ℕ, suc, ◌+◌, ◌-◌, ◌≤◌, Bool, true, false, cond, ltb, leb, List, [], ◌∷◌, ◌++◌, length, take, drop, Some, None, sym, ap, ◌∙◌, subst, arith, length-append, leb-true}
 use Rattle.std.proofs.lemmas.List.{take_at}
 use Rattle.std.proofs.lemmas.Bool.{and_parts}
 use Rattle.tokens.specs.Tokens.{Kind}
-use Rattle.grammar.specs.Grammar.{Module, spell, Text}
+use Rattle.grammar.specs.Grammar.{Text}
 use Rattle.program.specs.declared.instruction.Instruction.{Instruction}
 use Rattle.program.specs.declared.instruction.Instruction.TheVariants.{Return}
 use Rattle.program.specs.Sound.{sound}
-use Rattle.meaning.specs.Code.{code, place_of}
+use Rattle.meaning.specs.Code.{code}
 use Rattle.emission.specs.declared.parts.Pending.TheVariants.{Nothing}
 use Rattle.emission.specs.Claims.{AllKnown}
 use Rattle.emission.specs.Emission.{weight, total, labels, place_in, instructions, emitted, fits, code_length, written_over}

@@ -1,6 +1,5 @@
 -- The text :001 J1 :000 J0 is accepted. Assumes nothing.
-use Rattle.std.proofs.Common.{◌≡◌, ℕ, zero, suc, ◌<◌, ◌≤◌, ◌⊎◌, List, [], ◌∷◌, length, Ok, codes, Result, refl, subst, inl, inr, arith}
-use Rattle.faults.specs.declared.Place.{Place}
+use Rattle.std.proofs.Common.{◌≡◌, ℕ, zero, suc, ◌<◌, List, [], ◌∷◌, Ok, codes, Result, refl, subst, inl, inr, arith}
 use Rattle.tokens.specs.Numbers.{value_of}
 use Rattle.tokens.specs.Tokens.{Kind, label, call, end_of_level, kind_of, mark_of, plain_of}
 use Rattle.reading.specs.declared.ReadFault.{ReadFault}
@@ -9,12 +8,11 @@ use Rattle.reading.specs.Verdict.{Verdict as Read}
 use Rattle.reading.proofs.Verdicts.{verdict_of}
 use Rattle.grammar.proofs.Nesting.{limits_agree}
 use Rattle.rules.specs.Findings.{NoneAt}
-use Rattle.rules.specs.Labels.{kind_at, Labelled, Repeats, Unlinked}
+use Rattle.rules.specs.Labels.{kind_at, Repeats, Unlinked}
 use Rattle.rules.specs.Levels.{Misplaced}
 use Rattle.rules.specs.Bytes.{Stored, Clash}
-use Rattle.linking.specs.declared.figures.Figures.{Figures}
 use Rattle.linking.specs.Rules.{Overweight}
-use Rattle.linking.specs.Verdict.{Written, Accepted}
+use Rattle.linking.specs.Verdict.{Accepted}
 use Rattle.linking.specs.Records.{two_empty}
 
 abbrev empty_text : List ℕ

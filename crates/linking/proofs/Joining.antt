@@ -1,29 +1,27 @@
 -- What the parts of compiling make together. Assumes nothing.
-use Rattle.std.proofs.Common.{◌≡◌, ℕ, suc, ◌+◌, ◌-◌, ◌<◌, ◌≤◌, Bool, true, cond, ◌&&◌, ltb, leb, List, [], ◌∷◌, map, length, take, Ok, Err, sym, refl, ap, ◌∙◌, subst, arith, lt-ltb, le-leb}
+use Rattle.std.proofs.Common.{◌≡◌, ℕ, ◌-◌, ◌<◌, ◌≤◌, true, ltb, leb, List, [], ◌∷◌, map, length, take, Ok, Err, sym, refl, ap, ◌∙◌, subst, arith, lt-ltb, le-leb}
 use Rattle.std.proofs.lemmas.List.{length-map}
 use Rattle.std.proofs.lemmas.Bool.{and_from}
 use Rattle.scanning.specs.Text.{longest}
-use Rattle.tokens.specs.Tokens.{Kind, label}
+use Rattle.tokens.specs.Tokens.{Kind}
 use Rattle.reading.specs.declared.Placed.{Placed}
 use Rattle.reading.specs.Items.{Item, item}
 use Rattle.reading.specs.Verdict.{Verdict as Read}
-use Rattle.grammar.specs.Grammar.{Cmds, Module, module_of, closing, spell_cmds, spell_modules, spell}
-use Rattle.grammar.specs.Verdict.{item_kind, kinds, place_at, MemoryAfter, Accepted as Parsed}
+use Rattle.grammar.specs.Grammar.{Module, module_of, closing, spell_cmds, spell_modules, spell}
+use Rattle.grammar.specs.Verdict.{item_kind, kinds, MemoryAfter, Accepted as Parsed}
 use Rattle.program.specs.declared.record.Program.{Program}
 use Rattle.program.specs.Sound.{padded}
-use Rattle.meaning.specs.Code.{code, place_of}
+use Rattle.meaning.specs.Code.{code}
 use Rattle.emission.specs.Claims.{AllKnown}
-use Rattle.emission.specs.Emission.{weight, total, emitted, place_in, fits}
+use Rattle.emission.specs.Emission.{total, emitted, place_in, fits}
 use Rattle.emission.proofs.Turns.{weight_small}
 use Rattle.emission.proofs.Known.{known_tokens}
 use Rattle.emission.proofs.Trees.{code_by_tokens, places_by_tokens}
 use Rattle.linking.specs.declared.LinkFault.{LinkFault}
 use Rattle.linking.specs.declared.figures.Figures.{Figures}
-use Rattle.linking.specs.Faults.{fault_of}
 use Rattle.linking.specs.Order.{NoneBroken}
 use Rattle.linking.specs.Rules.{token_rules, Overweight}
-use Rattle.linking.specs.Verdict.{Written, Accepted, Verdict}
-use Rattle.linking.specs.Records.{RecordOf}
+use Rattle.linking.specs.Verdict.{Written, Verdict}
 use Rattle.linking.specs.Judging.{Assembled, Light, FaultIn, LinkedAs, ListText}
 use Rattle.linking.proofs.Levels.{not_overweight}
 

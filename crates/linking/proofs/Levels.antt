@@ -1,5 +1,5 @@
 -- Cause 13. Assumes nothing.
-use Rattle.std.proofs.Common.{◌≡◌, ℕ, ◌+◌, ◌-◌, ◌<◌, ◌≤◌, min, Bool, true, false, ◌⊎◌, List, [], ◌∷◌, ◌++◌, length, replicate, sym, refl, ap, ◌∙◌, subst, inl, inr, ⊎_elim, arith}
+use Rattle.std.proofs.Common.{◌≡◌, ℕ, ◌-◌, List, ◌++◌, length, replicate, sym, refl, ap, ◌∙◌, inl, inr, ⊎_elim, arith}
 use native.Mathlib.Decide.{dec_lt}
 use Rattle.faults.specs.declared.Place.{Place}
 use Rattle.tokens.specs.Tokens.{Kind}
@@ -9,7 +9,6 @@ use Rattle.grammar.specs.Verdict.{kinds}
 use Rattle.program.specs.declared.record.Program.{Program}
 use Rattle.program.specs.declared.instruction.Instruction.{Instruction}
 use Rattle.program.specs.declared.instruction.Instruction.TheVariants.{Return}
-use Rattle.program.specs.Sound.{padded}
 use Rattle.meaning.specs.Code.{code, place_of}
 use Rattle.meaning.specs.Figure.{figure}
 use Rattle.emission.specs.Emission.{emitted, place_in}
@@ -20,7 +19,7 @@ use Rattle.weights.specs.declared.weight.Weight.{Weight}
 use Rattle.weights.specs.Claims.{CodeOf, WeightOf}
 use Rattle.linking.specs.declared.LinkFault.TheVariants.{Overweight as TooGreat}
 use Rattle.linking.specs.Rules.{Heavy, Overweight}
-use Rattle.linking.specs.Judging.{Assembled, LabelPlace, FaultIn, Light}
+use Rattle.linking.specs.Judging.{Assembled, LabelPlace, FaultIn}
 
 -- both labels stand in the text
 pub there_1 : (ks : List Kind) → NoneAt (Unlinked ks) → NoneAt (IsLabel ks 1) → ⊥

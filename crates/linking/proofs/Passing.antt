@@ -1,14 +1,12 @@
 -- Passes of a compiled list. Assumes nothing.
-use Rattle.std.proofs.Common.{◌≡◌, ℕ, ◌-◌, ◌<◌, ◌≤◌, ◌⊎◌, List, [], ◌++◌, length, replicate, sym, refl, ap, ◌∙◌, subst, inl, inr, arith}
+use Rattle.std.proofs.Common.{◌≡◌, ℕ, ◌-◌, ◌≤◌, List, [], ◌++◌, length, replicate, sym, subst, inl, inr, arith}
 use native.Mathlib.Decide.{dec_lt}
 use Rattle.tokens.specs.Tokens.{Kind}
-use Rattle.grammar.specs.Grammar.{Module, spell}
+use Rattle.grammar.specs.Grammar.{Module}
 use Rattle.grammar.specs.Limits.{WithinLimits}
 use Rattle.grammar.proofs.Nesting.{limits_agree}
 use Rattle.program.specs.declared.instruction.Instruction.{Instruction}
 use Rattle.program.specs.declared.instruction.Instruction.TheVariants.{Return}
-use Rattle.program.specs.declared.record.Program.{Program}
-use Rattle.program.specs.Cells.{Sight, State}
 use Rattle.program.specs.Machine.{going, ticks}
 use Rattle.meaning.specs.Meaning.{trail}
 use Rattle.meaning.specs.Claims.{Reached}
@@ -20,11 +18,8 @@ use Rattle.meaning.proofs.Shallow.{shallow}
 use Rattle.meaning.proofs.Sound.{runs_as_meant}
 use Rattle.rules.specs.Findings.{NoneAt}
 use Rattle.rules.specs.Labels.{Unlinked}
-use Rattle.linking.specs.declared.figures.Figures.{Figures}
 use Rattle.linking.specs.Rules.{Heavy, Overweight}
-use Rattle.linking.specs.Verdict.{Accepted}
-use Rattle.linking.specs.Records.{RecordOf}
-use Rattle.linking.specs.Passes.{PassesAs, Passes, RunsAsWritten}
+use Rattle.linking.specs.Passes.{PassesAs, RunsAsWritten}
 use Rattle.linking.proofs.Levels.{there_1, there_0}
 
 -- modules that are not too great

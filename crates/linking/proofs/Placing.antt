@@ -1,5 +1,5 @@
 -- The places of tokens, and of the end. Assumes nothing.
-use Rattle.std.proofs.Common.{◌≡◌, ℕ, ◌<◌, ◌≤◌, Bool, true, cond, leb, List, [], ◌∷◌, map, length, get_or, Some, None, Option, sym, refl, ap, ◌∙◌, arith, le-leb}
+use Rattle.std.proofs.Common.{◌≡◌, ℕ, ◌<◌, ◌≤◌, cond, List, map, length, get_or, Some, None, sym, ap, ◌∙◌, arith, le-leb}
 use Rattle.std.proofs.lemmas.List.{length-map, get_or-map, get_or_past}
 use Rattle.scanning.specs.Text.{longest, start, walk}
 use Rattle.faults.specs.declared.Place.{Place}

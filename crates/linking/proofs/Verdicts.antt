@@ -1,5 +1,5 @@
 -- A text has one verdict. Assumes nothing.
-use Rattle.std.proofs.Common.{◌≡◌, ℕ, zero, suc, ◌<◌, ◌⊎◌, List, [], ◌∷◌, length, Some, None, Ok, Err, Option, Result, sym, refl, ap, ◌∙◌, subst, inl, inr, arith}
+use Rattle.std.proofs.Common.{◌≡◌, ℕ, zero, suc, ◌⊎◌, List, [], ◌∷◌, length, Some, None, Ok, Err, Option, Result, sym, refl, ap, ◌∙◌, subst, inl, inr, arith}
 use Rattle.faults.specs.declared.Place.{Place}
 use Rattle.reading.specs.declared.ReadFault.{ReadFault}
 use Rattle.reading.specs.Items.{Item}
@@ -7,12 +7,12 @@ use Rattle.reading.specs.Verdict.{Verdict as Read}
 use Rattle.reading.proofs.Verdicts.{one_verdict as one_reading}
 use Rattle.grammar.specs.declared.GrammarFault.{GrammarFault}
 use Rattle.grammar.specs.declared.Shape.{Shape}
-use Rattle.grammar.specs.Grammar.{Module, spell}
+use Rattle.grammar.specs.Grammar.{Module}
 use Rattle.grammar.specs.Verdict.{kinds, place_at, Verdict as Parsed}
 use Rattle.grammar.proofs.Trees.{one_tree}
 use Rattle.grammar.proofs.Verdicts.{one_verdict as one_parsing}
 use Rattle.meaning.specs.Figure.{figure}
-use Rattle.rules.specs.Findings.{NoneAt, First, Found}
+use Rattle.rules.specs.Findings.{NoneAt, First}
 use Rattle.rules.proofs.Unique.{one_finding}
 use Rattle.linking.specs.declared.LinkFault.{LinkFault}
 use Rattle.linking.specs.declared.LinkFault.TheVariants.{Grammar, Repeated, Unlinked, Misplaced, Clashing, Overweight}
@@ -21,7 +21,7 @@ use Rattle.linking.specs.Faults.{fault_of}
 use Rattle.linking.specs.Order.{NoneBroken, FirstBroken}
 use Rattle.linking.specs.Rules.{rules, token_rules}
 use Rattle.linking.specs.Verdict.{Written, Accepted, Broken, Verdict, OneVerdict}
-use Rattle.linking.specs.Judging.{FaultAt, FaultIn}
+use Rattle.linking.specs.Judging.{FaultAt}
 
 -- ---- rules in an order: what they say of a text is one thing
 -- which rule is broken first, and where

@@ -7,9 +7,7 @@ use Rattle.grammar.specs.Grammar.{Module}
 use Rattle.grammar.specs.Verdict.{kinds, place_at}
 use Rattle.program.specs.declared.record.Program.{Program}
 use Rattle.program.specs.Sound.{padded}
-use Rattle.emission.specs.Claims.{AllKnown}
 use Rattle.emission.specs.Emission.{emitted, place_in}
-use Rattle.meaning.specs.Code.{code, place_of}
 use Rattle.meaning.specs.Figure.{figure}
 use Rattle.rules.specs.Findings.{First}
 use Rattle.rules.specs.Labels.{IsLabel}

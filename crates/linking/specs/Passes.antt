@@ -1,5 +1,5 @@
 -- What compiling leaves, and what passes of a compiled list do. Assumes nothing.
-use Rattle.std.specs.Prelude.{◌≡◌, ℕ, ◌≤◌, List, [], length, Ok, Err, Result}
+use Rattle.std.specs.Prelude.{ℕ, ◌≤◌, List, [], length, Ok, Err, Result}
 use Rattle.grammar.specs.Grammar.{Module}
 use Rattle.program.specs.declared.instruction.Instruction.{Instruction}
 use Rattle.program.specs.declared.record.Program.{Program}

@@ -1,7 +1,7 @@
 -- The list of the worked run is accepted, with figures 4 and 5; the empty text is refused. Assumes nothing.
-use Rattle.std.proofs.Common.{◌≡◌, ℕ, zero, suc, ◌+◌, ◌<◌, ◌≤◌, true, false, ◌⊎◌, List, [], ◌∷◌, length, Some, None, Ok, Err, codes, Option, Result, sym, refl, ap, ◌∙◌, subst, inl, inr, arith}
+use Rattle.std.proofs.Common.{◌≡◌, ℕ, zero, suc, ◌<◌, true, false, List, [], ◌∷◌, Some, Ok, codes, Result, sym, refl, ◌∙◌, subst, inl, inr, arith}
 use Rattle.scanning.specs.Text.{start}
-use Rattle.tokens.specs.declared.Area.TheVariants.{Input, Output, Change, Internal}
+use Rattle.tokens.specs.declared.Area.TheVariants.{Input, Output, Internal}
 use Rattle.tokens.specs.declared.WordCell.TheVariants.{Pair}
 use Rattle.tokens.specs.declared.Operator.TheVariants.{Add}
 use Rattle.tokens.specs.Numbers.{value_of, number_of}

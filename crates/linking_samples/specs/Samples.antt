@@ -1,13 +1,5 @@
 -- Samples of lists and what reading answers of each. Assumes nothing.
-use Rattle.std.specs.Prelude.{◌≡◌, ℕ, false, List, [], ◌∷◌, Ok, Err, codes}
-use Rattle.scanning.specs.Text.{start}
-use Rattle.tokens.specs.declared.Area.TheVariants.{Internal}
-use Rattle.tokens.specs.declared.WordCell.TheVariants.{Pair}
-use Rattle.tokens.specs.Cells.{bit_cell_in}
-use Rattle.tokens.specs.Tokens.{Kind, number, load_bit, load_word}
-use Rattle.reading.specs.declared.ReadFault.{ReadFault}
-use Rattle.reading.specs.Faults.{cause_of, place_of}
-use Rattle.reading.specs.Items.{read_of}
+use Rattle.std.specs.Prelude.{◌≡◌, ℕ, List, [], Ok, Err, codes}
 use Rattle.linking.specs.declared.LinkFault.TheVariants.{Unlinked}
 use Rattle.linking.specs.Faults.{cause_of as link_cause}
 use Rattle.linking.specs.Verdict.{Verdict}

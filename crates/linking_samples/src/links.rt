@@ -112,6 +112,7 @@ const LISTS: [(
 
 fn finds(
     rt: &impl Abort,
+    row: usize,
     text: &[u8],
     repeated: Option<usize>,
     astray: Option<usize>,
@@ -120,23 +121,23 @@ fn finds(
 ) -> Result<(), Fail> {
     let mut memory = [Placed::blank(); 2048];
     let Ok(n) = read(text, &mut memory) else {
-        return Err(Fail::new("not read"));
+        return Err(Fail::new(format_args!("row {row}: not read")));
     };
     if n > 2048 {
-        return Err(Fail::new("too many"));
+        return Err(Fail::new(format_args!("row {row}: too many")));
     }
     let tokens = &memory[..n];
-    assert_eq!(rt; repeated_label(tokens), repeated);
-    assert_eq!(rt; unlinked(tokens), astray);
-    assert_eq!(rt; misplaced(tokens), early);
-    assert_eq!(rt; clashing(tokens), shared);
+    assert_eq!(rt; repeated_label(tokens), repeated, "row {row}");
+    assert_eq!(rt; unlinked(tokens), astray, "row {row}");
+    assert_eq!(rt; misplaced(tokens), early, "row {row}");
+    assert_eq!(rt; clashing(tokens), shared, "row {row}");
     Ok(())
 }
 
 #[test]
 fn lists_with_their_faults(rt: HostRuntime) -> Result<(), Fail> {
     for (row, (text, repeated, astray, early, shared)) in LISTS.iter().enumerate() {
-        finds(&rt, text, *repeated, *astray, *early, *shared).note(row)?;
+        finds(&rt, row, text, *repeated, *astray, *early, *shared)?;
     }
     Ok(())
 }

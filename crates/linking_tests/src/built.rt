@@ -10,10 +10,10 @@ enum Verdict {
     Refused(u8, u32, u32),
 }
 
-fn has(rt: &impl Abort, text: &[u8], verdict: Verdict) -> Result<(), Fail> {
+fn has(rt: &impl Abort, row: usize, text: &[u8], verdict: Verdict) -> Result<(), Fail> {
     match verdict {
-        Verdict::Accepted(quick, slow) => accepts(rt, text, quick, slow),
-        Verdict::Refused(cause, line, column) => refuses(rt, text, cause, line, column),
+        Verdict::Accepted(quick, slow) => accepts(rt, row, text, quick, slow),
+        Verdict::Refused(cause, line, column) => refuses(rt, row, text, cause, line, column),
     }
 }
 
@@ -126,7 +126,7 @@ fn great_figures(rt: HostRuntime) -> Result<(), Fail> {
         text.extend_from_slice(b":003 ")?;
         repeat(&mut text, b"G004 ", 49)?;
         text.extend_from_slice(b"R :004 R")?;
-        has(&rt, text.as_slice(), *verdict).note(row)?;
+        has(&rt, row, text.as_slice(), *verdict)?;
     }
     Ok(())
 }
@@ -154,7 +154,7 @@ fn figures_that_a_branch_makes_too_great(rt: HostRuntime) -> Result<(), Fail> {
         text.extend_from_slice(b" J1 :000 J0 :003 ")?;
         repeat(&mut text, b"G004 ", 49)?;
         text.extend_from_slice(b"R :004 R")?;
-        has(&rt, text.as_slice(), *verdict).note(row)?;
+        has(&rt, row, text.as_slice(), *verdict)?;
     }
     Ok(())
 }
@@ -206,7 +206,7 @@ fn modules_that_call_the_next(rt: HostRuntime) -> Result<(), Fail> {
                 text.extend_from_slice(b"R ")?;
             }
         }
-        has(&rt, text.as_slice(), *verdict).note(row)?;
+        has(&rt, row, text.as_slice(), *verdict)?;
     }
     Ok(())
 }
@@ -278,7 +278,7 @@ fn limits_of_a_text(rt: HostRuntime) -> Result<(), Fail> {
         text.extend_from_slice(before)?;
         repeat(&mut text, part, *times)?;
         text.extend_from_slice(behind)?;
-        has(&rt, text.as_slice(), *verdict).note(row)?;
+        has(&rt, row, text.as_slice(), *verdict)?;
     }
     Ok(())
 }
@@ -291,7 +291,7 @@ fn limit_of_modules(rt: HostRuntime) -> Result<(), Fail> {
         text.extend_from_slice(&named(b':', module))?;
         text.extend_from_slice(b"R ")?;
     }
-    accepts(&rt, text.as_slice(), 1, 1)?;
+    accepts(&rt, 0, text.as_slice(), 1, 1)?;
     text.extend_from_slice(b":199 R")?;
-    refuses(&rt, text.as_slice(), 8, 1, 451)
+    refuses(&rt, 1, text.as_slice(), 8, 1, 451)
 }

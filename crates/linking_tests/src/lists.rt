@@ -196,20 +196,20 @@ LY000 A LI002 SY002 J1
 
 #[test]
 fn examples(rt: HostRuntime) -> Result<(), Fail> {
-    accepts(&rt, BELT, 28, 5)?;
-    accepts(&rt, CLAMP, 32, 4)?;
-    accepts(&rt, STOPPER, 23, 7)?;
-    accepts(&rt, VACUUM, 48, 9)?;
-    refuses(&rt, REFUSED, 4, 5, 8)
+    accepts(&rt, 0, BELT, 28, 5)?;
+    accepts(&rt, 1, CLAMP, 32, 4)?;
+    accepts(&rt, 2, STOPPER, 23, 7)?;
+    accepts(&rt, 3, VACUUM, 48, 9)?;
+    refuses(&rt, 4, REFUSED, 4, 5, 8)
 }
 
 #[test]
 fn stations(rt: HostRuntime) -> Result<(), Fail> {
-    accepts(&rt, FEEDER, 34, 9)?;
-    accepts(&rt, GUARD, 31, 7)?;
-    accepts(&rt, HANDSHAKE, 26, 6)?;
-    accepts(&rt, NOZZLE, 20, 5)?;
-    accepts(&rt, REJECT, 20, 14)?;
-    accepts(&rt, TOWER, 18, 11)?;
-    accepts(&rt, NOZZLES, 46, 9)
+    accepts(&rt, 0, FEEDER, 34, 9)?;
+    accepts(&rt, 1, GUARD, 31, 7)?;
+    accepts(&rt, 2, HANDSHAKE, 26, 6)?;
+    accepts(&rt, 3, NOZZLE, 20, 5)?;
+    accepts(&rt, 4, REJECT, 20, 14)?;
+    accepts(&rt, 5, TOWER, 18, 11)?;
+    accepts(&rt, 6, NOZZLES, 46, 9)
 }

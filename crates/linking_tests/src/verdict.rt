@@ -25,6 +25,7 @@ fn layer_of(cause: u8) -> &'static str {
 // The text is refused so, and the record is then that of two empty modules.
 pub(crate) fn refuses(
     rt: &impl Abort,
+    row: usize,
     text: &[u8],
     cause: u8,
     line: u32,
@@ -32,41 +33,50 @@ pub(crate) fn refuses(
 ) -> Result<(), Fail> {
     let mut record = taken(rt)?;
     match compile(text, &mut record) {
-        Ok(_) => return Err(Fail::new("accepted")),
+        Ok(_) => return Err(Fail::new(format_args!("row {row}: accepted"))),
         Err(fault) => {
-            assert_eq!(rt; fault.cause(), cause);
-            assert_eq!(rt; fault.layer().name(), layer_of(cause));
-            assert!(rt; fault.place() == Place { line, column });
+            assert_eq!(rt; fault.cause(), cause, "row {row}");
+            assert_eq!(rt; fault.layer().name(), layer_of(cause), "row {row}");
+            assert!(rt; fault.place() == Place { line, column }, "row {row}");
         }
     }
-    assert!(rt; record.figures() == Figures { quick: 1, slow: 1 });
-    assert_eq!(rt; record.program().len(), 3);
-    assert_eq!(rt; record.program().quick(), 0);
-    assert_eq!(rt; record.program().slow(), 1);
+    assert!(rt;
+        record.figures() == Figures { quick: 1, slow: 1 },
+        "row {row}"
+    );
+    assert_eq!(rt; record.program().len(), 3, "row {row}");
+    assert_eq!(rt; record.program().quick(), 0, "row {row}");
+    assert_eq!(rt; record.program().slow(), 1, "row {row}");
     Ok(())
 }
 
 // The text is accepted with these figures, and the record has them.
-pub(crate) fn accepts(rt: &impl Abort, text: &[u8], quick: u16, slow: u16) -> Result<(), Fail> {
+pub(crate) fn accepts(
+    rt: &impl Abort,
+    row: usize,
+    text: &[u8],
+    quick: u16,
+    slow: u16,
+) -> Result<(), Fail> {
     let mut record = taken(rt)?;
     match compile(text, &mut record) {
-        Ok(figures) => assert!(rt; figures == Figures { quick, slow }),
-        Err(_) => return Err(Fail::new("refused")),
+        Ok(figures) => assert!(rt; figures == Figures { quick, slow }, "row {row}"),
+        Err(_) => return Err(Fail::new(format_args!("row {row}: refused"))),
     }
-    assert!(rt; record.figures() == Figures { quick, slow });
+    assert!(rt; record.figures() == Figures { quick, slow }, "row {row}");
     Ok(())
 }
 
 pub(crate) fn refuse(rt: &impl Abort, rows: &[(&[u8], u8, u32, u32)]) -> Result<(), Fail> {
     for (row, (text, cause, line, column)) in rows.iter().enumerate() {
-        refuses(rt, text, *cause, *line, *column).note(row)?;
+        refuses(rt, row, text, *cause, *line, *column)?;
     }
     Ok(())
 }
 
 pub(crate) fn accept(rt: &impl Abort, rows: &[(&[u8], u16, u16)]) -> Result<(), Fail> {
     for (row, (text, quick, slow)) in rows.iter().enumerate() {
-        accepts(rt, text, *quick, *slow).note(row)?;
+        accepts(rt, row, text, *quick, *slow)?;
     }
     Ok(())
 }

@@ -115,11 +115,11 @@ fn first_read(line: &[u8], word: u8) -> Result<Option<u16>, Fail> {
     }
 }
 
-fn refuses(rt: &impl Abort, line: &[u8]) -> Result<(), Fail> {
+fn refuses(rt: &impl Abort, row: usize, line: &[u8]) -> Result<(), Fail> {
     match Tape::new(line) {
-        Ok(_) => Err(Fail::new("accepted")),
+        Ok(_) => Err(Fail::new(format_args!("row {row}: accepted"))),
         Err(fault) => {
-            assert_eq!(rt; fault.line(), 1);
+            assert_eq!(rt; fault.line(), 1, "row {row}");
             Ok(())
         },
     }
@@ -150,7 +150,7 @@ fn dashes(rt: HostRuntime) -> Result<(), Fail> {
 fn bad_fields(rt: HostRuntime) -> Result<(), Fail> {
     for (row, field) in BAD.iter().enumerate() {
         for word in 0..8usize {
-            refuses(&rt, &line_with(field, word)).note(row)?;
+            refuses(&rt, row, &line_with(field, word))?;
         }
     }
     Ok(())

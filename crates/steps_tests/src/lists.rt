@@ -157,7 +157,7 @@ const ROWS: [(&[u8], bool, &[Fact], u16, u16, u16, &[Fact]); 19] = [
 #[test]
 fn lists(rt: HostRuntime) -> Result<(), Fail> {
     for (row, (text, slow, before, op, steps, figure, after)) in ROWS.iter().enumerate() {
-        runs(&rt, text, *slow, before, *op, *steps, *figure, after).note(row)?;
+        runs(&rt, row, text, *slow, before, *op, *steps, *figure, after)?;
     }
     Ok(())
 }

@@ -95,16 +95,20 @@ const ROWS: [(&[u8], bool, &[Fact], &[u16]); 14] = [
     ),
 ];
 
-fn same(rt: &impl Abort, a: &Cpu, b: &Cpu) -> Result<(), Fail> {
-    assert_eq!(rt; a.op(), b.op());
-    assert_eq!(rt; a.place(), b.place());
-    assert_eq!(rt; a.is_over(), b.is_over());
+fn same(rt: &impl Abort, row: usize, k: u16, a: &Cpu, b: &Cpu) -> Result<(), Fail> {
+    assert_eq!(rt; a.op(), b.op(), "row {row}, step {k}");
+    assert_eq!(rt; a.place(), b.place(), "row {row}, step {k}");
+    assert_eq!(rt; a.is_over(), b.is_over(), "row {row}, step {k}");
     for i in 0..144u8 {
-        assert_eq!(rt; a.byte(i), b.byte(i), "{}", i);
-        assert_eq!(rt; a.is_stored(i), b.is_stored(i), "{}", i);
+        assert_eq!(rt; a.byte(i), b.byte(i), "row {row}, step {k}, byte {i}");
+        assert_eq!(rt;
+            a.is_stored(i),
+            b.is_stored(i),
+            "row {row}, step {k}, byte {i}"
+        );
     }
     for i in 0..20u8 {
-        assert_eq!(rt; a.timer(i), b.timer(i), "{}", i);
+        assert_eq!(rt; a.timer(i), b.timer(i), "row {row}, step {k}, timer {i}");
     }
     Ok(())
 }
@@ -112,6 +116,7 @@ fn same(rt: &impl Abort, a: &Cpu, b: &Cpu) -> Result<(), Fail> {
 // One pass goes on by a step at a time; for each k another one is begun and makes k steps.
 fn goes(
     rt: &impl Abort,
+    row: usize,
     program: &Program,
     place: u16,
     cells: &Cells,
@@ -121,26 +126,26 @@ fn goes(
     let mut stack = Stack::new(&mut slots);
     let mut cpu = Cpu::new(cells.bytes, cells.timers, place);
     let none = run_pass(program, place, &cells.sight, cells.bytes, cells.timers, 0);
-    assert_eq!(rt; none.steps, 0);
-    assert!(rt; !none.over);
-    same(rt, &none.cpu, &cpu)?;
+    assert_eq!(rt; none.steps, 0, "row {row}");
+    assert!(rt; !none.over, "row {row}");
+    same(rt, row, 0, &none.cpu, &cpu)?;
     let mut k: u16 = 0;
     for op in ops {
-        assert!(rt; k < 65535);
+        assert!(rt; k < 65535, "row {row}");
         k += 1;
         let last = k as usize == ops.len();
         let (made, over) = cpu.run(program, &cells.sight, &mut stack, 1);
-        assert_eq!(rt; made, 1, "{}", k);
-        assert_eq!(rt; over, last, "{}", k);
-        assert_eq!(rt; cpu.op(), *op, "{}", k);
+        assert_eq!(rt; made, 1, "row {row}, step {k}");
+        assert_eq!(rt; over, last, "row {row}, step {k}");
+        assert_eq!(rt; cpu.op(), *op, "row {row}, step {k}");
         let pass = run_pass(program, place, &cells.sight, cells.bytes, cells.timers, k);
-        assert_eq!(rt; pass.steps, k);
-        assert_eq!(rt; pass.over, last);
-        same(rt, &pass.cpu, &cpu).note(k)?;
+        assert_eq!(rt; pass.steps, k, "row {row}, step {k}");
+        assert_eq!(rt; pass.over, last, "row {row}, step {k}");
+        same(rt, row, k, &pass.cpu, &cpu)?;
     }
     let (made, over) = cpu.run(program, &cells.sight, &mut stack, 1);
-    assert_eq!(rt; made, 0);
-    assert!(rt; over);
+    assert_eq!(rt; made, 0, "row {row}");
+    assert!(rt; over, "row {row}");
     let whole = run_pass(
         program,
         place,
@@ -149,9 +154,9 @@ fn goes(
         cells.timers,
         65535,
     );
-    assert_eq!(rt; whole.steps, k);
-    assert!(rt; whole.over);
-    same(rt, &whole.cpu, &cpu)
+    assert_eq!(rt; whole.steps, k, "row {row}");
+    assert!(rt; whole.over, "row {row}");
+    same(rt, row, k, &whole.cpu, &cpu)
 }
 
 #[test]
@@ -159,7 +164,7 @@ fn step_by_step(rt: HostRuntime) -> Result<(), Fail> {
     for (row, (text, slow, facts, ops)) in ROWS.iter().enumerate() {
         let mut record = Compiled::empty();
         if compile(text, &mut record).is_err() {
-            return Err(Fail::new("refused"));
+            return Err(Fail::new(format_args!("row {row}: refused")));
         }
         let program = record.program();
         let place = if *slow {
@@ -168,7 +173,7 @@ fn step_by_step(rt: HostRuntime) -> Result<(), Fail> {
             program.quick()
         };
         let cells = before(facts)?;
-        goes(&rt, program, place, &cells, ops).note(row)?;
+        goes(&rt, row, program, place, &cells, ops)?;
     }
     Ok(())
 }

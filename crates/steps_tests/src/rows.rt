@@ -61,6 +61,7 @@ pub(crate) fn before(facts: &[Fact]) -> Result<Cells, Fail> {
 // `after`.
 pub(crate) fn runs(
     rt: &impl Abort,
+    row: usize,
     text: &[u8],
     slow: bool,
     facts: &[Fact],
@@ -71,7 +72,7 @@ pub(crate) fn runs(
 ) -> Result<(), Fail> {
     let mut record = Compiled::empty();
     let Ok(figures) = compile(text, &mut record) else {
-        return Err(Fail::new("refused"));
+        return Err(Fail::new(format_args!("row {row}: refused")));
     };
     let program = record.program();
     let (place, most) = if slow {
@@ -79,7 +80,7 @@ pub(crate) fn runs(
     } else {
         (program.quick(), figures.quick)
     };
-    assert_eq!(rt; most, figure);
+    assert_eq!(rt; most, figure, "row {row}");
     let cells = before(facts)?;
     let end = with(cells, after)?;
     let pass = run_pass(
@@ -90,20 +91,27 @@ pub(crate) fn runs(
         cells.timers,
         65535,
     );
-    assert!(rt; pass.over);
-    assert_eq!(rt; pass.steps, steps);
-    assert_eq!(rt; pass.cpu.op(), op);
+    assert!(rt; pass.over, "row {row}");
+    assert_eq!(rt; pass.steps, steps, "row {row}");
+    assert_eq!(rt; pass.cpu.op(), op, "row {row}");
     for i in 0..144u8 {
-        assert_eq!(rt; pass.cpu.byte(i), Some(end.bytes[i as usize]), "{}", i);
+        assert_eq!(rt;
+            pass.cpu.byte(i),
+            Some(end.bytes[i as usize]),
+            "row {row}, byte {i}"
+        );
         assert_eq!(rt;
             pass.cpu.is_stored(i),
             Some(end.stored[i as usize]),
-            "{}",
-            i
+            "row {row}, byte {i}"
         );
     }
     for i in 0..20u8 {
-        assert_eq!(rt; pass.cpu.timer(i), Some(end.timers[i as usize]), "{}", i);
+        assert_eq!(rt;
+            pass.cpu.timer(i),
+            Some(end.timers[i as usize]),
+            "row {row}, timer {i}"
+        );
     }
     Ok(())
 }
@@ -120,6 +128,7 @@ pub(crate) fn bodies(
         text.extend_from_slice(b" J1 :000 J0")?;
         runs(
             rt,
+            row,
             text.as_slice(),
             false,
             facts,
@@ -127,8 +136,7 @@ pub(crate) fn bodies(
             *steps,
             *figure,
             after,
-        )
-        .note(row)?;
+        )?;
     }
     Ok(())
 }

@@ -9,14 +9,17 @@ use crate::compiled::Compiled;
 use crate::figures::Figures;
 use crate::judging::{Linked, link};
 use program::Program;
+use program::instruction::Instruction;
 
 impl Compiled {
     // The record of :001 J1 :000 J0.
     pub fn empty() -> Compiled
         ensures recorded { RecordOf two_empty result.program result.figures }
     {
+        let mut program = Program::empty();
+        let _ = program.load(&[Instruction::Return; 3], 0, 1);
         Compiled {
-            program: Program::empty(),
+            program,
             figures: Figures { quick: 1, slow: 1 },
         }
     }

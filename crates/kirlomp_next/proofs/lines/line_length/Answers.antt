@@ -1,8 +1,8 @@
 use Rattle.std.proofs.Common.{arith}
 use Rattle.std.proofs.lemmas.List.{at_drop_all}
-use Rattle.kirlomp.specs.Lines.{line_length}
-use Rattle.kirlomp.proofs.Steps.{length_here, length_more}
-use Rattle.kirlomp.proofs.lines.line_length.Goals as goal
+use Rattle.kirlomp_next.specs.Lines.{line_length}
+use Rattle.kirlomp_next.proofs.Steps.{length_here, length_more}
+use Rattle.kirlomp_next.proofs.lines.line_length.Goals as goal
 
 pub loop-end-preserved : goal.loop-end-preserved
 loop-end-preserved c =

@@ -1,6 +1,6 @@
 use Rattle.std.proofs.Common.{◌≡◌, ◌+◌, ◌-◌, ◌≤◌, length, drop}
-use Rattle.kirlomp.specs.Lines.{line_length}
-use Rattle.kirlomp.proofs.lines.line_length.Given as goal
+use Rattle.kirlomp_next.specs.Lines.{line_length}
+use Rattle.kirlomp_next.proofs.lines.line_length.Given as goal
 
 abbrev pub invariant-loop-end : goal.invariant-loop-end
 invariant-loop-end l =

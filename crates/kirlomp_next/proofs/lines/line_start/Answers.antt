@@ -1,13 +1,13 @@
 use Rattle.std.proofs.Common.{◌+◌, drop, ap, arith}
 use Rattle.std.proofs.lemmas.List.{at_drop_all}
-use Rattle.kirlomp.specs.Lines.{line_start}
-use Rattle.kirlomp.proofs.Steps.{start_here, start_more}
-use Rattle.kirlomp.proofs.lines.line_start.Goals as goal
+use Rattle.kirlomp_next.specs.Lines.{line_start}
+use Rattle.kirlomp_next.proofs.Steps.{start_here, start_more}
+use Rattle.kirlomp_next.proofs.lines.line_start.Goals as goal
 
 pub loop-at-preserved : goal.loop-at-preserved
 loop-at-preserved c =
     let h = start_more c.loop-at.left c.args.text.now c.loop-at.at c.loop-at-test.true (omega arith) in
-    let e = ap (λ n. line_start n (drop (c.loop-at.at + 1) c.args.text.now)) c.lines-left-left.ensures in
+    let e = ap (λ n. line_start n (drop (c.loop-at.at + 1) c.args.text.now)) c.lines_left-left.ensures in
     (omega arith, omega arith)
 
 pub returns-then-left-le1 : goal.returns-then-left-le1

@@ -1,6 +1,6 @@
 use Rattle.std.proofs.Common.{◌≡◌, ◌+◌, ◌-◌, ◌≤◌, length, drop}
-use Rattle.kirlomp.specs.Lines.{line_start}
-use Rattle.kirlomp.proofs.lines.line_start.Given as goal
+use Rattle.kirlomp_next.specs.Lines.{line_start}
+use Rattle.kirlomp_next.proofs.lines.line_start.Given as goal
 
 abbrev pub invariant-loop-at : goal.invariant-loop-at
 invariant-loop-at l =

@@ -1,7 +1,6 @@
 use Rattle.std.proofs.lemmas.Bool.Decides.{not_from_Decides}
-use Rattle.grammar.specs.Grammar.{Module}
 use Rattle.grammar.specs.Verdict.{kinds_of}
-use Rattle.std.proofs.Common.{List, map}
+use Rattle.std.proofs.Common.{map}
 use Rattle.reading.specs.Items.{item}
 use Rattle.linking.proofs.Levels.{there_1, there_0, quick_code, slow_code, quick_fault, slow_fault, exact}
 use Rattle.linking.proofs.judging.weigh_levels.Goals as goal
