@@ -5,7 +5,7 @@ use Rattle.machine.specs.Plan.{Plan, Bounded}
 use Rattle.machine.specs.Machine.{Phase, State, made, Call, risen, spent_at, sight_of, next, answer, after}
 use Rattle.machine.specs.Histories.{Event, calls, history, is_refused, says_opened, panel_after, openings, phase_since, seen_since}
 use Rattle.machine.specs.Laws.{Follows, state, TurnLaw, EventLaw, PanelLaw, Lawful}
-use Rattle.machine.specs.Claims.{MachineIsLawful, Goes_on}
+use Rattle.machine.specs.Claims.{MachineIsLawful, GoesOn}
 use Rattle.machine.proofs.Steps.{event_did, event_besides, display_stays}
 use Rattle.machine.proofs.Turns.{by_answer, told, told_with, opens_iff, scans_iff, slices_iff, closes_iff}
 use Rattle.machine.proofs.Panels.{opening_leaves, closing_leaves, closing_puts}
@@ -92,7 +92,7 @@ module _ (plan : Plan) where
 pub machine_is_lawful : MachineIsLawful
 machine_is_lawful plan bd cs = lawful plan bd (history plan made cs) (own plan made cs)
 
-pub goes_on : Goes_on
+pub goes_on : GoesOn
 goes_on plan bd h e l q =
     record {
       lawful = lawful plan bd (h ++ (e ∷ [])) (follows-++ plan made h (e ∷ []) l.answers (q, tt));

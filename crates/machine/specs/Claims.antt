@@ -15,8 +15,8 @@ pub record OneMore (plan : Plan) (h : List Event) (e : Event) : Type 0 where
   pub state_is : state plan (h ++ (e ∷ [])) ≡ next plan (state plan h) e.call
 
 -- one more call with the machine's answer keeps a history lawful
-abbrev pub Goes_on : Type 0
-Goes_on = (plan : Plan) → Bounded plan → (h : List Event) (e : Event) → Lawful plan h → e.answer ≡ answer plan (state plan h) e.call → OneMore plan h e
+abbrev pub GoesOn : Type 0
+GoesOn = (plan : Plan) → Bounded plan → (h : List Event) (e : Event) → Lawful plan h → e.answer ≡ answer plan (state plan h) e.call → OneMore plan h e
 
 -- the interval is in this phase and has the ticket's number
 pub record Turn (p : Phase) (ticket : ℕ) (s : State) : Type 0 where

@@ -2,7 +2,7 @@
 // its functions have no result, their promises are the theorems.
 #![tactic(auto)]
 
-ghost use Rattle.machine.specs.Claims.{MachineIsLawful, Goes_on, IntervalsGo};
+ghost use Rattle.machine.specs.Claims.{MachineIsLawful, GoesOn, IntervalsGo};
 ghost use Rattle.machine.specs.Lists.{ListsBounded};
 ghost use Rattle.machine.specs.Example.{WorkedRun};
 
@@ -10,7 +10,7 @@ ghost use Rattle.machine.specs.Example.{WorkedRun};
 // The calls of an interval, each in its turn, are accepted.
 pub fn laws_stand()
     ensures lawful { MachineIsLawful }
-    ensures on { Goes_on }
+    ensures on { GoesOn }
     ensures turns { IntervalsGo }
 {}
 

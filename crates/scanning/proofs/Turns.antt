@@ -53,8 +53,8 @@ pub record Turn (text : List ℕ) (n : ℕ) (old new : Cursor) (w : Spot) : Type
   pub within : new.at ≤ length text
   pub more : left_of text n old ≡ before w (left_of text (n + 1) new)
 
-module _ (text at_entry_lem at_exit : List ℕ) (n : ℕ) (old new : Cursor) (r : Result (Option Word) ScanFault) where
-  pub turned : (w : Word) → r ≡ Ok (Some w) → at_entry_lem ≡ text → at_exit ≡ at_entry_lem → Moves r old new → told_by r new at_exit ≡ next_in at_entry_lem old → new.at ≤ length at_exit → n ≤ old.at → Turn text n old new (spot_of w)
+module _ (text at_entry at_exit : List ℕ) (n : ℕ) (old new : Cursor) (r : Result (Option Word) ScanFault) where
+  pub turned : (w : Word) → r ≡ Ok (Some w) → at_entry ≡ text → at_exit ≡ at_entry → Moves r old new → told_by r new at_exit ≡ next_in at_entry old → new.at ≤ length at_exit → n ≤ old.at → Turn text n old new (spot_of w)
   turned w came here same moves told in-text low =
       let goes : old.at < new.at = subst (λ x. Moves x old new) came moves in
       let within : new.at ≤ length text = omega (arith, ap length same, ap length here) in
