@@ -8,6 +8,8 @@ mod shapes;
 #[cfg(test)]
 mod values;
 #[cfg(test)]
+mod verdict;
+#[cfg(test)]
 mod verdicts;
 
 // The table of samples stands: that is the promise, and there is no result.

@@ -1,8 +1,7 @@
 // Texts of the grammar, with their count of modules, and texts that are refused, with cause and place.
-use faults::{Layer, Place};
-use grammar::parse;
+use crate::verdict::{accepts, refuses};
+use grammar::{GrammarFault, parse};
 use reading::Placed;
-use std::process::Abort;
 use std::test::Fail;
 
 // A text, its cause, line and column.
@@ -191,46 +190,16 @@ const ACCEPTED: [(&[u8], usize); 42] = [
     ),
 ];
 
-fn refuses(
-    rt: &impl Abort,
-    row: usize,
-    text: &[u8],
-    cause: u8,
-    line: u32,
-    column: u32,
-) -> Result<(), Fail> {
+// How many modules a list has.
+fn modules_of(text: &[u8]) -> Result<usize, GrammarFault> {
     let mut memory = [Placed::blank(); 2048];
-    match parse(text, &mut memory) {
-        Ok(_) => Err(Fail::new(format_args!("row {row} is accepted"))),
-        Err(fault) => {
-            assert_eq!(rt; fault.cause(), cause, "row {row}");
-            let layer = if cause > 6 {
-                Layer::Grammar
-            } else {
-                Layer::Reading
-            };
-            assert!(rt; fault.layer() == layer, "row {row}");
-            assert!(rt; fault.place() == Place { line, column }, "row {row}");
-            Ok(())
-        }
-    }
-}
-
-fn accepts(rt: &impl Abort, row: usize, text: &[u8], modules: usize) -> Result<(), Fail> {
-    let mut memory = [Placed::blank(); 2048];
-    match parse(text, &mut memory) {
-        Ok(shape) => {
-            assert_eq!(rt; shape.modules, modules, "row {row}");
-            Ok(())
-        }
-        Err(_) => Err(Fail::new(format_args!("row {row} is refused"))),
-    }
+    parse(text, &mut memory).map(|shape| shape.modules)
 }
 
 #[test]
 fn lists_that_are_refused(rt: HostRuntime) -> Result<(), Fail> {
     for (row, (text, cause, line, column)) in REFUSED.iter().enumerate() {
-        refuses(&rt, row, text, *cause, *line, *column)?;
+        refuses(&rt, row, modules_of(text), *cause, *line, *column)?;
     }
     Ok(())
 }
@@ -238,7 +207,7 @@ fn lists_that_are_refused(rt: HostRuntime) -> Result<(), Fail> {
 #[test]
 fn lists_that_are_accepted(rt: HostRuntime) -> Result<(), Fail> {
     for (row, (text, modules)) in ACCEPTED.iter().enumerate() {
-        accepts(&rt, row, text, *modules)?;
+        accepts(&rt, row, modules_of(text), *modules)?;
     }
     Ok(())
 }

@@ -1,7 +1,7 @@
 // Texts that are read, with their count of tokens, and texts that are refused, with cause and place.
-use faults::{Layer, Place};
-use reading::{Placed, read};
-use std::process::Abort;
+use crate::verdict::{accepts, refuses};
+use faults::Fault;
+use reading::{Placed, ReadFault, read};
 use std::test::Fail;
 
 // A text, its cause, line and column.
@@ -138,41 +138,16 @@ const READ: [(&[u8], usize); 33] = [
     ),
 ];
 
-fn refuses(
-    rt: &impl Abort,
-    row: usize,
-    text: &[u8],
-    cause: u8,
-    line: u32,
-    column: u32,
-) -> Result<(), Fail> {
+// How many tokens a text has.
+fn tokens_of(text: &[u8]) -> Result<usize, ReadFault> {
     let mut memory = [Placed::blank(); 2048];
-    match read(text, &mut memory) {
-        Ok(_) => Err(Fail::new(format_args!("row {row} is read"))),
-        Err(fault) => {
-            assert_eq!(rt; fault.cause(), cause, "row {row}");
-            assert!(rt; fault.layer() == Layer::Reading, "row {row}");
-            assert!(rt; fault.place() == Place { line, column }, "row {row}");
-            Ok(())
-        }
-    }
-}
-
-fn reads(rt: &impl Abort, row: usize, text: &[u8], tokens: usize) -> Result<(), Fail> {
-    let mut memory = [Placed::blank(); 2048];
-    match read(text, &mut memory) {
-        Ok(n) => {
-            assert_eq!(rt; n, tokens, "row {row}");
-            Ok(())
-        }
-        Err(_) => Err(Fail::new(format_args!("row {row} is refused"))),
-    }
+    read(text, &mut memory)
 }
 
 #[test]
 fn texts_that_are_refused(rt: HostRuntime) -> Result<(), Fail> {
     for (row, (text, cause, line, column)) in REFUSED.iter().enumerate() {
-        refuses(&rt, row, text, *cause, *line, *column)?;
+        refuses(&rt, row, tokens_of(text), *cause, *line, *column)?;
     }
     Ok(())
 }
@@ -180,7 +155,7 @@ fn texts_that_are_refused(rt: HostRuntime) -> Result<(), Fail> {
 #[test]
 fn texts_that_are_read(rt: HostRuntime) -> Result<(), Fail> {
     for (row, (text, tokens)) in READ.iter().enumerate() {
-        reads(&rt, row, text, *tokens)?;
+        accepts(&rt, row, tokens_of(text), *tokens)?;
     }
     Ok(())
 }
@@ -188,19 +163,19 @@ fn texts_that_are_read(rt: HostRuntime) -> Result<(), Fail> {
 // 16,384 bytes are read and one more is not; 2,048 tokens are, and the next stands at its place.
 #[test]
 fn limits(rt: HostRuntime) -> Result<(), Fail> {
-    reads(&rt, 1, &[b' '; 16384], 0)?;
-    refuses(&rt, 2, &[b' '; 16385], 1, 0, 0)?;
-    refuses(&rt, 3, &[0u8; 16384], 2, 1, 1)?;
-    refuses(&rt, 4, &[0u8; 16385], 1, 0, 0)?;
-    reads(&rt, 5, &[b'['; 2048], 2048)?;
-    refuses(&rt, 6, &[b'['; 2049], 6, 1, 2049)?;
+    accepts(&rt, 1, tokens_of(&[b' '; 16384]), 0)?;
+    refuses(&rt, 2, tokens_of(&[b' '; 16385]), 1, 0, 0)?;
+    refuses(&rt, 3, tokens_of(&[0u8; 16384]), 2, 1, 1)?;
+    refuses(&rt, 4, tokens_of(&[0u8; 16385]), 1, 0, 0)?;
+    accepts(&rt, 5, tokens_of(&[b'['; 2048]), 2048)?;
+    refuses(&rt, 6, tokens_of(&[b'['; 2049]), 6, 1, 2049)?;
     let mut late = [b'['; 2060];
     late[2059] = b'5';
-    refuses(&rt, 7, &late, 6, 1, 2049)?;
+    refuses(&rt, 7, tokens_of(&late), 6, 1, 2049)?;
     late[2058] = b'O';
-    refuses(&rt, 8, &late, 4, 1, 2059)?;
+    refuses(&rt, 8, tokens_of(&late), 4, 1, 2059)?;
     late[2057] = 0;
-    refuses(&rt, 9, &late, 2, 1, 2058)
+    refuses(&rt, 9, tokens_of(&late), 2, 1, 2058)
 }
 
 // Every byte by itself: outside a comment, and inside one of each kind.
@@ -208,15 +183,16 @@ fn limits(rt: HostRuntime) -> Result<(), Fail> {
 fn bytes(rt: HostRuntime) -> Result<(), Fail> {
     for b in 0..=255u8 {
         let outside = [b' ', b, b' '];
-        let mut memory = [Placed::blank(); 2048];
-        let bad = match read(&outside, &mut memory) {
-            Ok(_) => false,
-            Err(fault) => fault.cause() == 2,
-        };
-        let allowed = b == 9 || b == 10 || b == 13 || (32 <= b && b <= 126);
+        let bad = tokens_of(&outside).is_err_and(|fault| fault.cause() == 2);
+        let allowed = matches!(b, 9 | 10 | 13 | 32..=126);
         assert!(rt; bad != allowed, "byte {b}");
-        reads(&rt, b as usize, &[b';', b, b'\n', b'R'], 1)?;
-        reads(&rt, b as usize, &[b'/', b'*', b, b'*', b'/', b'R'], 1)?;
+        accepts(&rt, b as usize, tokens_of(&[b';', b, b'\n', b'R']), 1)?;
+        accepts(
+            &rt,
+            b as usize,
+            tokens_of(&[b'/', b'*', b, b'*', b'/', b'R']),
+            1,
+        )?;
     }
     Ok(())
 }

@@ -1,13 +1,11 @@
 -- The code of modules is sound. Assumes nothing.
-use Rattle.std.proofs.Common.{◌≡◌, ℕ, zero, suc, ◌+◌, ◌<◌, ◌≤◌, Bool, true, false, cond, not, ◌&&◌, eqb, ltb, leb, List, [], ◌∷◌, ◌++◌, length, get_or, sym, refl, ap, ◌∙◌, subst, append_assoc, append-nil, arith, length-append, length-drop, lt-ltb, le-leb}
+use Rattle.std.proofs.Common.{◌≡◌, ℕ, zero, suc, ◌+◌, ◌<◌, ◌≤◌, Bool, true, false, cond, not, ◌&&◌, eqb, ltb, leb, List, [], ◌∷◌, ◌++◌, length, get_or, sym, refl, ap, ◌∙◌, subst, append_assoc, append-nil, arith, length-append, length-drop, lt-ltb, le-leb, Some, None, Option}
 use Rattle.std.proofs.lemmas.List.{get_or-drop}
 use Rattle.std.proofs.lemmas.Bool.{and_from}
 use Rattle.tokens.specs.declared.Operator.{Operator}
 use Rattle.tokens.specs.Tokens.{Kind, bracket_closes, end_of_condition}
 use Rattle.grammar.specs.Grammar.{Load as LoadTree, number_loaded, bit_loaded, word_loaded, bracket_loaded, Ops, no_more, apply_then, Operand, number_taken, bit_taken, word_taken, bracket_taken, Act, bit_stored, word_stored, switched, called, with_number, with_word, Test as TestTree, bit_tested, compared, Command, loading, applying, acting, choosing, Cmds, done, and_then, Alternative, no_else, else_do, Module, module_of, closing, spell_load, spell_ops, spell_operand, spell_act, spell_test, spell_command, spell_cmds, spell_alternative, spell_modules}
 use Rattle.program.specs.declared.instruction.Source.TheVariants.{Number, Bit, Word}
-use Rattle.program.specs.declared.instruction.Join.{Join}
-use Rattle.program.specs.declared.instruction.Join.TheVariants.{Replace, With}
 use Rattle.program.specs.declared.instruction.Check.{Check}
 use Rattle.program.specs.declared.instruction.Instruction.{Instruction}
 use Rattle.program.specs.declared.instruction.Instruction.TheVariants.{Return, Load, Apply, Open, Close, StoreBit, StoreWord, Switch, Test, Skip, Call}
@@ -175,7 +173,7 @@ module _ (program : List Instruction) where
     sits_plain : (i : Instruction) → ((n : ℕ) → n + 1 < length program → fine_as program (length program) n i ≡ true) → Sits at (i ∷ [])
     sits_plain i f n lt go h = (f n lt, tt)
 
-    sits_bracket : (j : Join) (l : LoadTree) (os : Ops) → Sits at (load_code l) → Sits at (ops_code os) → Sits at (bracket_code j (load_code l ++ ops_code os))
+    sits_bracket : (j : Option Operator) (l : LoadTree) (os : Ops) → Sits at (load_code l) → Sits at (ops_code os) → Sits at (bracket_code j (load_code l ++ ops_code os))
     sits_bracket j l os p q =
         sits_join (Open j ∷ []) ((load_code l ++ ops_code os) ++ (Close ∷ [])) (sits_plain (Open j) goes_on)
         (sits_join (load_code l ++ ops_code os) (Close ∷ []) (sits_join (load_code l) (ops_code os) p q) (sits_plain Close goes_on))
@@ -192,7 +190,7 @@ module _ (program : List Instruction) where
       sits_load (bracket_loaded l os) r k =
           let p = sits_load l (spell_ops os (bracket_closes ∷ r)) k.1 in
           let q = sits_ops os (bracket_closes ∷ r) p.1 in
-          (sits_bracket Replace l os p.0 q.0, q.1.1)
+          (sits_bracket None l os p.0 q.0, q.1.1)
 
       sits_ops : (os : Ops) (r : List Kind) → AllKnown (spell_ops os r) → Sits at (ops_code os) × AllKnown r
       sits_ops no_more r k = (sits_none, k)
@@ -208,7 +206,7 @@ module _ (program : List Instruction) where
       sits_operand o (bracket_taken l os) r k =
           let p = sits_load l (spell_ops os (bracket_closes ∷ r)) k.1 in
           let q = sits_ops os (bracket_closes ∷ r) p.1 in
-          (sits_bracket (With o) l os p.0 q.0, q.1.1)
+          (sits_bracket (Some o) l os p.0 q.0, q.1.1)
 
     sits_call : (l : ℕ) → Sits at (Call (at l) ∷ [])
     sits_call l n lt go h = (

@@ -1,13 +1,20 @@
 -- What one turn of each loop keeps. Assumes nothing.
-use Rattle.std.proofs.Common.{◌≡◌, ℕ, zero, suc, ◌+◌, ◌-◌, ◌<◌, ◌≤◌, Bool, true, false, cond, List, map, length, get_or, drop, sym, refl, ap, ◌∙◌, add-one, arith}
-use Rattle.std.proofs.lemmas.List.{length-map, get_or-map, at_drop_more, at_drop_all}
-use Rattle.tokens.specs.Tokens.{Kind, bracket_opens, bracket_closes, number, load_number, load_bit, load_word, store_bit, store_word, switch, test, operator, comparison, otherwise, end_of_condition, end_of_level, return, label, call}
+use Rattle.std.proofs.Common.{◌≡◌, ℕ, zero, suc, ◌+◌, ◌-◌, ◌<◌, ◌≤◌, Bool, true, false, cond, not, List, [], ◌∷◌, map, length, get_or, take, drop, Some, None, Option, Bor, sym, refl, ap, ◌∙◌, add-one, arith}
+use Rattle.std.proofs.lemmas.List.{length-map, get_or-map, at_drop_more, drop-map, take_rest, drop_more}
+use Rattle.std.specs.List.{sum_by, prefix_len}
+use Rattle.std.proofs.lemmas.List.Sums.{sum_by-cons, take_while-cons, prefix_len-le-length}
+use Rattle.std.proofs.lemmas.List.Folds.{length-prefix_len}
+use Rattle.std.proofs.lemmas.Fn.{fronts}
+use Rattle.std.proofs.lemmas.Iterator.{YieldsList}
+use Rattle.std.proofs.lemmas.Iterator.Consumers.{YieldsList-from_shown}
+use Rattle.std.specs.Slice.Iter.{iter_rest}
+use Rattle.tokens.specs.Tokens.{Kind, labels, bracket_opens, bracket_closes, number, load_number, load_bit, load_word, store_bit, store_word, switch, test, operator, comparison, otherwise, end_of_condition, end_of_level, return, label, call, lexeme}
 use Rattle.reading.specs.declared.Placed.{Placed}
 use Rattle.reading.specs.Items.{item, blank_item}
 use Rattle.grammar.specs.Verdict.{item_kind, kinds_of}
 use Rattle.emission.specs.declared.parts.Turn.{Turn}
-use Rattle.emission.specs.declared.parts.Turn.TheVariants.{Flat, Opening, Otherwise, Closing}
-use Rattle.emission.specs.Emission.{weight, total, turn, further, branch, labels, place_in}
+use Rattle.emission.specs.declared.parts.Turn.TheVariants.{Opening, Otherwise, Closing}
+use Rattle.emission.specs.Emission.{weight, total, turn, further, branch, place_in}
 
 -- the kind of a token is that of its place
 pub kind_at : (ts : List Placed) (i : ℕ) (x : Placed) → i < length ts → get_or (kinds_of ts) i bracket_opens ≡ (item (get_or ts i x)).token.kind
@@ -17,6 +24,17 @@ kind_at ts i x lt =
 
 pub length_kinds : (ts : List Placed) → length (kinds_of ts) ≡ length ts
 length_kinds ts = length-map (map item ts) item_kind ∙ length-map ts item
+
+-- the kinds from a place on
+pub kinds_drop : (i : ℕ) (ts : List Placed) → kinds_of (drop i ts) ≡ drop i (kinds_of ts)
+kinds_drop i ts = ap (map item_kind) (sym (drop-map item i ts)) ∙ sym (drop-map item_kind i (map item ts))
+
+pub kinds_behind : (ts : List Placed) (i : ℕ) → kinds_of (take (length ts - i) (drop i ts)) ≡ drop i (kinds_of ts)
+kinds_behind ts i = ap kinds_of (take_rest ts i) ∙ kinds_drop i ts
+
+pub kinds_here : (ts : List Placed) (i : ℕ) (x : Placed) → i < length ts → drop i (kinds_of ts) ≡ (lexeme (get_or ts i x).token).kind ∷ drop (i + 1) (kinds_of ts)
+kinds_here ts i x lt =
+    drop_more (kinds_of ts) i bracket_opens (omega (arith, length_kinds ts)) ∙ ap (λ k. k ∷ drop (i + 1) (kinds_of ts)) (kind_at ts i x lt)
 
 pub weight_small : (k : Kind) → weight k ≤ 1
 weight_small bracket_opens = omega arith
@@ -38,92 +56,77 @@ weight_small return = omega arith
 weight_small (label n) = omega arith
 weight_small (call n) = omega arith
 
--- ---- how many instructions
-pub record Counted (ts : List Placed) (i n : ℕ) : Type 0 where
-  pub sum : n + total (drop i (kinds_of ts)) ≡ total (kinds_of ts)
-  pub few : n ≤ i
-
-module _ (ts : List Placed) (i n : ℕ) (h : Counted ts i n) where
-  pub counted_more : (k : Kind) (w : ℕ) → i < length ts → k ≡ get_or (kinds_of ts) i bracket_opens → w ≡ weight k → Counted ts (i + 1) (n + w)
-  counted_more k w lt e f =
-      let ks = kinds_of ts in
-      let le : i < length ks = omega (arith, length_kinds ts) in
-      let s : total (drop i ks) ≡ weight (get_or ks i bracket_opens) + total (drop (i + 1) ks) = at_drop_more total ks i bracket_opens le in
-      let g : weight k ≡ weight (get_or ks i bracket_opens) = ap weight e in
-      record { sum = omega (arith, h.sum); few = omega (arith, h.few, weight_small k) }
-
-  pub counted_all : length ts ≤ i → n ≡ total (kinds_of ts)
-  counted_all le =
-      let s : total (drop i (kinds_of ts)) ≡ 0 = at_drop_all total (kinds_of ts) i (omega (arith, length_kinds ts)) in
-      omega (arith, h.sum)
-
 -- ---- to the end of a branch
-pub record Gone (ts : List Placed) (from i d n : ℕ) : Type 0 where
+pub record Gone (ts : List Placed) (i d n : ℕ) : Type 0 where
   pub deep : d ≤ i
   pub few : n ≤ i
-  pub sum : n + branch d (drop i (kinds_of ts)) ≡ branch 0 (drop from (kinds_of ts))
+  pub sum : n + branch d (drop i (kinds_of ts)) ≡ branch 0 (kinds_of ts)
 
-module _ (ts : List Placed) (from i d n : ℕ) (h : Gone ts from i d n) (lt : i < length ts) (k : Kind) (e : k ≡ get_or (kinds_of ts) i bracket_opens) (w : ℕ) (f : w ≡ weight k) where
-  step : (u : Turn) → u ≡ turn k → branch d (drop i (kinds_of ts)) ≡ further u w d (λ x. branch x (drop (i + 1) (kinds_of ts)))
+module _ (ts : List Placed) (i d n : ℕ) (h : Gone ts i d n) (lt : i < length ts) (k : Kind) (e : k ≡ get_or (kinds_of ts) i bracket_opens) (w : ℕ) (f : w ≡ weight k) where
+  step : (u : Option Turn) → u ≡ turn k → branch d (drop i (kinds_of ts)) ≡ further u w d (λ x. branch x (drop (i + 1) (kinds_of ts)))
   step u g =
       at_drop_more (branch d) (kinds_of ts) i bracket_opens (omega (arith, length_kinds ts))
       ∙ ap (λ y. further (turn y) (weight y) d (λ x. branch x (drop (i + 1) (kinds_of ts)))) (sym e)
       ∙ (λ j. further (sym g j) (sym f j) d (λ x. branch x (drop (i + 1) (kinds_of ts))))
 
-  pub gone_flat : Flat ≡ turn k → Gone ts from (i + 1) d (n + w)
-  gone_flat g = record { deep = omega (arith, h.deep); few = omega (arith, h.few, weight_small k); sum = omega (arith, h.sum, step Flat g) }
+  pub gone_flat : None ≡ turn k → Gone ts (i + 1) d (n + w)
+  gone_flat g = record { deep = omega (arith, h.deep); few = omega (arith, h.few, weight_small k); sum = omega (arith, h.sum, step None g) }
 
-  pub gone_opening : Opening ≡ turn k → Gone ts from (i + 1) (d + 1) (n + w)
-  gone_opening g = record { deep = omega (arith, h.deep); few = omega (arith, h.few, weight_small k); sum = omega (arith, h.sum, step Opening g, ap (λ x. branch x (drop (i + 1) (kinds_of ts))) (add-one d)) }
+  pub gone_opening : Some Opening ≡ turn k → Gone ts (i + 1) (d + 1) (n + w)
+  gone_opening g = record { deep = omega (arith, h.deep); few = omega (arith, h.few, weight_small k); sum = omega (arith, h.sum, step (Some Opening) g, ap (λ x. branch x (drop (i + 1) (kinds_of ts))) (add-one d)) }
 
-  pub gone_otherwise : Otherwise ≡ turn k → (d ≡ 0 → ⊥) → Gone ts from (i + 1) d (n + w)
-  gone_otherwise g ne = record { deep = omega (arith, h.deep); few = omega (arith, h.few, weight_small k); sum = omega (arith, h.sum, step Otherwise g ∙ go d ne) }
+  pub gone_otherwise : Some Otherwise ≡ turn k → (d ≡ 0 → ⊥) → Gone ts (i + 1) d (n + w)
+  gone_otherwise g ne = record { deep = omega (arith, h.deep); few = omega (arith, h.few, weight_small k); sum = omega (arith, h.sum, step (Some Otherwise) g ∙ go d ne) }
     where
-      go : (x : ℕ) → (x ≡ 0 → ⊥) → further Otherwise w x (λ y. branch y (drop (i + 1) (kinds_of ts))) ≡ w + branch x (drop (i + 1) (kinds_of ts))
+      go : (x : ℕ) → (x ≡ 0 → ⊥) → further (Some Otherwise) w x (λ y. branch y (drop (i + 1) (kinds_of ts))) ≡ w + branch x (drop (i + 1) (kinds_of ts))
       go zero z = absurd (z refl)
       go (suc x) z = refl
 
-  pub gone_closing : Closing ≡ turn k → (d ≡ 0 → ⊥) → Gone ts from (i + 1) (d - 1) (n + w)
-  gone_closing g ne = record { deep = omega (arith, h.deep); few = omega (arith, h.few, weight_small k); sum = omega (arith, h.sum, step Closing g ∙ go d ne) }
+  pub gone_closing : Some Closing ≡ turn k → (d ≡ 0 → ⊥) → Gone ts (i + 1) (d - 1) (n + w)
+  gone_closing g ne = record { deep = omega (arith, h.deep); few = omega (arith, h.few, weight_small k); sum = omega (arith, h.sum, step (Some Closing) g ∙ go d ne) }
     where
-      go : (x : ℕ) → (x ≡ 0 → ⊥) → further Closing w x (λ y. branch y (drop (i + 1) (kinds_of ts))) ≡ w + branch (x - 1) (drop (i + 1) (kinds_of ts))
+      go : (x : ℕ) → (x ≡ 0 → ⊥) → further (Some Closing) w x (λ y. branch y (drop (i + 1) (kinds_of ts))) ≡ w + branch (x - 1) (drop (i + 1) (kinds_of ts))
       go zero z = absurd (z refl)
       go (suc x) z = let q : x ≡ suc x - 1 = omega arith in ap (λ y. w + branch y (drop (i + 1) (kinds_of ts))) q
 
-  pub ends_otherwise : Otherwise ≡ turn k → d ≡ 0 → n + w ≡ branch 0 (drop from (kinds_of ts))
-  ends_otherwise g z = omega (arith, h.sum, step Otherwise g ∙ ap (λ x. further Otherwise w x (λ y. branch y (drop (i + 1) (kinds_of ts)))) z)
+  pub ends_otherwise : Some Otherwise ≡ turn k → d ≡ 0 → n + w ≡ branch 0 (kinds_of ts)
+  ends_otherwise g z = omega (arith, h.sum, step (Some Otherwise) g ∙ ap (λ x. further (Some Otherwise) w x (λ y. branch y (drop (i + 1) (kinds_of ts)))) z)
 
-  pub ends_closing : Closing ≡ turn k → d ≡ 0 → n ≡ branch 0 (drop from (kinds_of ts))
-  ends_closing g z = omega (arith, h.sum, step Closing g ∙ ap (λ x. further Closing w x (λ y. branch y (drop (i + 1) (kinds_of ts)))) z)
+  pub ends_closing : Some Closing ≡ turn k → d ≡ 0 → n ≡ branch 0 (kinds_of ts)
+  ends_closing g z = omega (arith, h.sum, step (Some Closing) g ∙ ap (λ x. further (Some Closing) w x (λ y. branch y (drop (i + 1) (kinds_of ts)))) z)
 
   pub at_most : n + w ≤ length ts
   at_most = omega (arith, h.few, weight_small k)
 
-pub gone_all : (ts : List Placed) (from i d n : ℕ) → Gone ts from i d n → length ts ≤ i → n ≡ branch 0 (drop from (kinds_of ts))
-gone_all ts from i d n h le =
-    let s : branch d (drop i (kinds_of ts)) ≡ 0 = at_drop_all (branch d) (kinds_of ts) i (omega (arith, length_kinds ts)) in
-    omega (arith, h.sum)
+-- ---- how many instructions
+abbrev pub kind_behind : Bor Placed → Kind
+kind_behind y = (lexeme y.now.token).kind
+
+pub over_kinds : (ts : List Placed) {s : _} → iter_rest s ≡ ts → YieldsList fronts kind_behind s (kinds_of ts)
+over_kinds ts {s} e =
+    rw (← e) (YieldsList-from_shown fronts kind_behind (λ t. kinds_of (iter_rest t)) (λ t u h. length_kinds (iter_rest t) ∙ h.0) (λ t x u h. ap kinds_of h) s)
+
+pub total-sum_by : (ks : List Kind) → total ks ≡ sum_by weight ks
+total-sum_by [] = refl
+total-sum_by (k ∷ ks) = ap (λ n. weight k + n) (total-sum_by ks) ∙ sym (sum_by-cons weight k ks)
+
+pub total_small : (ks : List Kind) → total ks ≤ length ks
+total_small [] = omega arith
+total_small (k ∷ ks) = omega (arith, weight_small k, total_small ks)
 
 -- ---- to a label
-pub record Sought (ts : List Placed) (l from i first n : ℕ) : Type 0 where
-  pub few : n ≤ first + i
-  pub same : place_in l n (drop i (kinds_of ts)) ≡ place_in l first (drop from (kinds_of ts))
+abbrev pub before_label : ℕ → List Kind → List Kind
+before_label l ks = take (prefix_len (λ k. not (labels l k)) ks) ks
 
-module _ (ts : List Placed) (l from i first n : ℕ) (h : Sought ts l from i first n) (lt : i < length ts) (k : Kind) (e : k ≡ get_or (kinds_of ts) i bracket_opens) where
-  look : (b : Bool) → b ≡ labels l k → place_in l n (drop i (kinds_of ts)) ≡ cond b n (place_in l (n + weight k) (drop (i + 1) (kinds_of ts)))
-  look b g =
-      at_drop_more (place_in l n) (kinds_of ts) i bracket_opens (omega (arith, length_kinds ts))
-      ∙ ap (λ y. cond (labels l y) n (place_in l (n + weight y) (drop (i + 1) (kinds_of ts)))) (sym e)
-      ∙ ap (λ y. cond y n (place_in l (n + weight k) (drop (i + 1) (kinds_of ts)))) (sym g)
+pub place_in-sum_by : (l n : ℕ) (ks : List Kind) → n + sum_by weight (before_label l ks) ≡ place_in l n ks
+place_in-sum_by l n [] = omega arith
+place_in-sum_by l n (k ∷ ks) = ap (λ xs. n + sum_by weight xs) (take_while-cons (λ x. not (labels l x)) k ks) ∙ go (place_in-sum_by l (n + weight k) ks) (labels l k)
+  where
+    go : n + weight k + sum_by weight (before_label l ks) ≡ place_in l (n + weight k) ks → (b : Bool) → n + sum_by weight (cond (not b) (k ∷ before_label l ks) []) ≡ cond b n (place_in l (n + weight k) ks)
+    go rest true = omega arith
+    go rest false = omega (arith, sum_by-cons weight k (before_label l ks))
 
-  pub found : true ≡ labels l k → n ≡ place_in l first (drop from (kinds_of ts))
-  found g = sym (look true g) ∙ h.same
-
-  pub sought_more : false ≡ labels l k → (w : ℕ) → w ≡ weight k → Sought ts l from (i + 1) first (n + w)
-  sought_more g w f = record {
-    few = omega (arith, h.few, weight_small k);
-    same = ap (λ x. place_in l (n + x) (drop (i + 1) (kinds_of ts))) f ∙ sym (look false g) ∙ h.same;
-  }
-
-pub sought_all : (ts : List Placed) (l from i first n : ℕ) → Sought ts l from i first n → length ts ≤ i → n ≡ place_in l first (drop from (kinds_of ts))
-sought_all ts l from i first n h le = sym (at_drop_all (place_in l n) (kinds_of ts) i (omega (arith, length_kinds ts))) ∙ h.same
+pub before_label_small : (l : ℕ) (ks : List Kind) → sum_by weight (before_label l ks) ≤ length ks
+before_label_small l ks =
+    let p = λ (k : Kind). not (labels l k) in
+    omega (arith, total-sum_by (before_label l ks), total_small (before_label l ks), length-prefix_len p ks, prefix_len-le-length p ks)

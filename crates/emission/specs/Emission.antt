@@ -1,16 +1,15 @@
 -- The code of a list by its tokens: which instruction a token makes, from the token before it and from those behind it. Assumes nothing.
-use Rattle.std.specs.Prelude.{ℕ, zero, suc, ◌+◌, Bool, false, cond, ◌&&◌, List, [], ◌∷◌, ◌++◌, length, drop, Some, None, Option, ◌==◌, nat_le, nat_lt}
-use Rattle.tokens.specs.Tokens.{Kind, bracket_opens, bracket_closes, number, load_number, load_bit, load_word, store_bit, store_word, switch, test, operator, comparison, otherwise, end_of_condition, end_of_level, return, label, call}
+use Rattle.std.specs.Prelude.{ℕ, zero, suc, ◌+◌, Bool, cond, ◌&&◌, List, [], ◌∷◌, ◌++◌, length, drop, Some, None, Option, nat_le, nat_lt}
+use Rattle.tokens.specs.Tokens.{Kind, labels, bracket_opens, bracket_closes, number, load_number, load_bit, load_word, store_bit, store_word, switch, test, operator, comparison, otherwise, end_of_condition, end_of_level, return, label, call}
 use Rattle.program.specs.declared.instruction.Source.{Source}
 use Rattle.program.specs.declared.instruction.Source.TheVariants.{Number, Bit, Word}
-use Rattle.program.specs.declared.instruction.Join.TheVariants.{Replace, With}
 use Rattle.program.specs.declared.instruction.Check.TheVariants.{Bit as BitCheck, Compare}
 use Rattle.program.specs.declared.instruction.Instruction.{Instruction}
 use Rattle.program.specs.declared.instruction.Instruction.TheVariants.{Return, Load, Apply, Open, Close, StoreBit, StoreWord, Switch, Test, Skip, Call}
 use Rattle.emission.specs.declared.parts.Pending.{Pending}
-use Rattle.emission.specs.declared.parts.Pending.TheVariants.{Nothing, Operand, Comparand}
+use Rattle.emission.specs.declared.parts.Pending.TheVariants.{Operand, Comparand}
 use Rattle.emission.specs.declared.parts.Turn.{Turn}
-use Rattle.emission.specs.declared.parts.Turn.TheVariants.{Flat, Opening, Otherwise, Closing}
+use Rattle.emission.specs.declared.parts.Turn.TheVariants.{Opening, Otherwise, Closing}
 
 -- how many instructions a token makes: an operator and a comparison are part of their operand's
 abbrev pub weight : Kind → ℕ
@@ -39,81 +38,60 @@ total [] = 0
 total (k ∷ ks) = weight k + total ks
 
 -- what a token asks of the next
-abbrev pub asks : Kind → Pending
-asks bracket_opens = Nothing
-asks bracket_closes = Nothing
-asks (number v) = Nothing
-asks (load_number v) = Nothing
-asks (load_bit c n) = Nothing
-asks (load_word c n) = Nothing
-asks (store_bit c n) = Nothing
-asks (store_word c n) = Nothing
-asks (switch c on) = Nothing
-asks (test c n) = Nothing
-asks (operator o) = Operand o
-asks (comparison o) = Comparand o
-asks otherwise = Nothing
-asks end_of_condition = Nothing
-asks (end_of_level v) = Nothing
-asks return = Nothing
-asks (label n) = Nothing
-asks (call n) = Nothing
+abbrev pub asks : Kind → Option Pending
+asks bracket_opens = None
+asks bracket_closes = None
+asks (number v) = None
+asks (load_number v) = None
+asks (load_bit c n) = None
+asks (load_word c n) = None
+asks (store_bit c n) = None
+asks (store_word c n) = None
+asks (switch c on) = None
+asks (test c n) = None
+asks (operator o) = Some (Operand o)
+asks (comparison o) = Some (Comparand o)
+asks otherwise = None
+asks end_of_condition = None
+asks (end_of_level v) = None
+asks return = None
+asks (label n) = None
+asks (call n) = None
 
 -- its part in conditions
-abbrev pub turn : Kind → Turn
-turn bracket_opens = Flat
-turn bracket_closes = Flat
-turn (number v) = Flat
-turn (load_number v) = Flat
-turn (load_bit c n) = Flat
-turn (load_word c n) = Flat
-turn (store_bit c n) = Flat
-turn (store_word c n) = Flat
-turn (switch c on) = Flat
-turn (test c n) = Opening
-turn (operator o) = Flat
-turn (comparison o) = Opening
-turn otherwise = Otherwise
-turn end_of_condition = Closing
-turn (end_of_level v) = Flat
-turn return = Flat
-turn (label n) = Flat
-turn (call n) = Flat
+abbrev pub turn : Kind → Option Turn
+turn bracket_opens = None
+turn bracket_closes = None
+turn (number v) = None
+turn (load_number v) = None
+turn (load_bit c n) = None
+turn (load_word c n) = None
+turn (store_bit c n) = None
+turn (store_word c n) = None
+turn (switch c on) = None
+turn (test c n) = Some Opening
+turn (operator o) = None
+turn (comparison o) = Some Opening
+turn otherwise = Some Otherwise
+turn end_of_condition = Some Closing
+turn (end_of_level v) = None
+turn return = None
+turn (label n) = None
+turn (call n) = None
 
 -- inside d more conditions: what a token of w instructions adds to a branch, and what those behind it add
-abbrev pub further : Turn → ℕ → ℕ → (ℕ → ℕ) → ℕ
-further Flat w d f = w + f d
-further Opening w d f = w + f (suc d)
-further Otherwise w zero f = w
-further Otherwise w (suc d) f = w + f (suc d)
-further Closing w zero f = 0
-further Closing w (suc d) f = w + f d
+abbrev pub further : Option Turn → ℕ → ℕ → (ℕ → ℕ) → ℕ
+further None w d f = w + f d
+further (Some Opening) w d f = w + f (suc d)
+further (Some Otherwise) w zero f = w
+further (Some Otherwise) w (suc d) f = w + f (suc d)
+further (Some Closing) w zero f = 0
+further (Some Closing) w (suc d) f = w + f d
 
 -- how many instructions stand from here to the `Z` of the condition, or to its `E`, that one included
 abbrev pub branch : ℕ → List Kind → ℕ
 branch d [] = 0
 branch d (k ∷ ks) = further (turn k) (weight k) d (λ e. branch e ks)
-
--- whether it is the label l
-abbrev pub labels : ℕ → Kind → Bool
-labels l bracket_opens = false
-labels l bracket_closes = false
-labels l (number v) = false
-labels l (load_number v) = false
-labels l (load_bit c n) = false
-labels l (load_word c n) = false
-labels l (store_bit c n) = false
-labels l (store_word c n) = false
-labels l (switch c on) = false
-labels l (test c n) = false
-labels l (operator o) = false
-labels l (comparison o) = false
-labels l otherwise = false
-labels l end_of_condition = false
-labels l (end_of_level v) = false
-labels l return = false
-labels l (label n) = l == n
-labels l (call n) = false
 
 -- where module l begins, if the first instruction of the tokens has the place n; behind all where there is none
 abbrev pub place_in : ℕ → ℕ → List Kind → ℕ
@@ -121,18 +99,18 @@ place_in l n [] = n
 place_in l n (k ∷ ks) = cond (labels l k) n (place_in l (n + weight k) ks)
 
 -- a value: it is loaded, or taken by the operator or the comparison before it, whose false branch lies k on
-abbrev pub taking : Pending → Source → ℕ → Instruction
-taking Nothing x k = Load x
-taking (Operand o) x k = Apply o x
-taking (Comparand o) x k = Test (Compare o x) k
+abbrev pub taking : Option Pending → Source → ℕ → Instruction
+taking None x k = Load x
+taking (Some (Operand o)) x k = Apply o x
+taking (Some (Comparand o)) x k = Test (Compare o x) k
 
-abbrev pub opening : Pending → Instruction
-opening Nothing = Open Replace
-opening (Operand o) = Open (With o)
-opening (Comparand o) = Open Replace
+abbrev pub opening : Option Pending → Instruction
+opening None = Open None
+opening (Some (Operand o)) = Open (Some o)
+opening (Some (Comparand o)) = Open None
 
 -- the instruction of a token at place n, where p is pending and ks stand behind it
-abbrev pub made : Pending → ℕ → Kind → List Kind → Option Instruction
+abbrev pub made : Option Pending → ℕ → Kind → List Kind → Option Instruction
 made p n bracket_opens ks = Some (opening p)
 made p n bracket_closes ks = Some Close
 made p n (number v) ks = Some (taking p (Number v) (branch 0 ks))
@@ -157,13 +135,13 @@ before None is = is
 before (Some i) is = i ∷ is
 
 -- the instructions of tokens whose first has the place n, where p is pending
-abbrev pub instructions : Pending → ℕ → List Kind → List Instruction
+abbrev pub instructions : Option Pending → ℕ → List Kind → List Instruction
 instructions p n [] = []
 instructions p n (k ∷ ks) = before (made p n k ks) (instructions (asks k) (n + weight k) ks)
 
 -- the code of a list, with one more `Return` behind its modules
 abbrev pub emitted : List Kind → List Instruction
-emitted ks = instructions Nothing 0 ks ++ (Return ∷ [])
+emitted ks = instructions None 0 ks ++ (Return ∷ [])
 
 -- at most 2,048 tokens and 2,048 instructions
 abbrev pub fits : List Kind → Bool

@@ -4,7 +4,6 @@ pub mod Nesting
 pub mod Counts
 pub mod Verdicts
 pub mod Acts
-pub mod Tops
 pub mod Turns
 pub mod Ends
 pub mod Whole

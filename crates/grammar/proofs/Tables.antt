@@ -1,17 +1,18 @@
 -- The machine reads the grammar: what it goes through is what trees spell, and each stack can be finished. Assumes nothing.
-use Rattle.std.proofs.Common.{◌≡◌, ℕ, Bool, true, false, cond, eqb, List, [], ◌∷◌, ◌++◌, Some, None, Option, sym, refl, ap, ◌∙◌, subst, append-nil, arith, eqb-true}
+use Rattle.std.proofs.Common.{◌≡◌, ℕ, Bool, true, false, cond, eqb, List, [], ◌∷◌, ◌++◌, Some, None, Option, sym, refl, ap, ◌∙◌, subst, append-nil, eqb-true}
 use Rattle.tokens.specs.Tokens.{Kind, bracket_opens, bracket_closes, number, load_number, load_bit, load_word, store_bit, store_word, switch, test, operator, comparison, otherwise, end_of_condition, end_of_level, return, label, call}
 use Rattle.grammar.specs.declared.table.Ending.{Ending}
 use Rattle.grammar.specs.declared.table.Ending.TheVariants.{Return, Level0, Level1}
-use Rattle.grammar.specs.declared.table.Class.TheVariants.{Unplaced, End}
+use Rattle.grammar.specs.declared.table.Class.TheVariants.{End}
 use Rattle.grammar.specs.declared.table.Branch.TheVariants.{Then, Otherwise}
 use Rattle.grammar.specs.declared.table.Block.{Block}
 use Rattle.grammar.specs.declared.table.Block.TheVariants.{Body, Branch as Inside}
 use Rattle.grammar.specs.declared.table.Want.{Want}
-use Rattle.grammar.specs.declared.table.Want.TheVariants.{Modules, Commands, First, Rest, Operand as Operand!, Comparand as Comparand! }
+use Rattle.grammar.specs.declared.table.Pending.TheVariants.{First, Operand as Operand!, Comparand as Comparand! }
+use Rattle.grammar.specs.declared.table.Want.TheVariants.{Modules, Commands, Pending, Rest}
 use Rattle.grammar.specs.declared.table.Move.{Move}
 use Rattle.grammar.specs.Grammar.{Load, number_loaded, bit_loaded, word_loaded, bracket_loaded, Ops, no_more, apply_then, Operand, number_taken, bit_taken, word_taken, bracket_taken, Act, bit_stored, word_stored, switched, called, with_number, with_word, Test, bit_tested, compared, Command, loading, applying, acting, choosing, Cmds, done, and_then, Alternative, no_else, else_do, Module, module_of, closing, spell_load, spell_ops, spell_operand, spell_act, spell_test, spell_command, spell_cmds, spell_alternative, spell, Text, Begins}
-use Rattle.grammar.specs.Machine.{ending, class_of, ender, Tail, Tree, Forest, spell_forest, applied, keeps, fills_first, fills_operand, fills_comparand, begins, nests_first, nests_operand, operates, operates_rest, unnests, enters, tests, compares, turns, leaves_then, leaves_otherwise, finishes, rule_of, Entry, moved, step, then_run, run, start}
+use Rattle.grammar.specs.Machine.{ending, ender, Tail, Tree, Forest, spell_forest, applied, keeps, fills, begins, nests_first, nests_operand, operates, operates_rest, unnests, enters, tests, compares, turns, leaves, finishes, ruled, move_of, Entry, moved, step, then_run, run, start}
 
 -- a module's ending, as a token
 pub ends_so : (n : ℕ) → closing n ≡ ender (ending n)
@@ -23,57 +24,15 @@ ends_so n = by (eqb n 1) (eqb n 0)
     by false false = refl
 
 -- each entry of the table, with its way back; first where `J` and a digit is read, by what the digit is
-abbrev entry_level : (w : Want) (v : ℕ) (a b : Bool) → eqb v 1 ≡ a → eqb v 0 ≡ b → Entry w (end_of_level v) (rule_of w (cond a (End Level1) (cond b (End Level0) Unplaced)))
-entry_level Modules v true b p q = tt
-entry_level Modules v false true p q = tt
-entry_level Modules v false false p q = tt
-entry_level (Commands (Body Return)) v true b p q = tt
-entry_level (Commands (Body Return)) v false true p q = tt
-entry_level (Commands (Body Return)) v false false p q = tt
-entry_level (Commands (Body Level0)) v true b p q = tt
-entry_level (Commands (Body Level0)) v false true p q = (finishes, refl, λ s f. (((done, tt), f), ap (λ x. end_of_level x ∷ spell_forest s f) (sym (eqb-true v 0 q))))
-entry_level (Commands (Body Level0)) v false false p q = tt
-entry_level (Commands (Body Level1)) v true b p q = (finishes, refl, λ s f. (((done, tt), f), ap (λ x. end_of_level x ∷ spell_forest s f) (sym (eqb-true v 1 p))))
-entry_level (Commands (Body Level1)) v false true p q = tt
-entry_level (Commands (Body Level1)) v false false p q = tt
-entry_level (Commands (Inside b')) v true b p q = tt
-entry_level (Commands (Inside b')) v false true p q = tt
-entry_level (Commands (Inside b')) v false false p q = tt
-entry_level First v true b p q = tt
-entry_level First v false true p q = tt
-entry_level First v false false p q = tt
-entry_level Rest v true b p q = tt
-entry_level Rest v false true p q = tt
-entry_level Rest v false false p q = tt
-entry_level Operand! v true b p q = tt
-entry_level Operand! v false true p q = tt
-entry_level Operand! v false false p q = tt
-entry_level Comparand! v true b p q = tt
-entry_level Comparand! v false true p q = tt
-entry_level Comparand! v false false p q = tt
+abbrev entry_level : (a b : Bool) (w : Want) (v : ℕ) → eqb v 1 ≡ a → eqb v 0 ≡ b → Entry w (end_of_level v) (ruled w (cond a (Some (End Level1)) (cond b (Some (End Level0)) None)))
+entry_level true b (Commands (Body Level1)) v p q = (finishes, refl, λ s f. (((done, tt), f), ap (λ x. end_of_level x ∷ spell_forest s f) (sym (eqb-true v 1 p))))
+entry_level false true (Commands (Body Level0)) v p q = (finishes, refl, λ s f. (((done, tt), f), ap (λ x. end_of_level x ∷ spell_forest s f) (sym (eqb-true v 0 q))))
+entry_level a b w v p q = tt
 
-abbrev pub entry : (w : Want) (k : Kind) → Entry w k (rule_of w (class_of k))
-entry Modules bracket_opens = tt
-entry Modules bracket_closes = tt
-entry Modules (number v) = tt
-entry Modules (load_number v) = tt
-entry Modules (load_bit c n) = tt
-entry Modules (load_word c n) = tt
-entry Modules (store_bit c n) = tt
-entry Modules (store_word c n) = tt
-entry Modules (switch c n) = tt
-entry Modules (test c n) = tt
-entry Modules (operator o) = tt
-entry Modules (comparison o) = tt
-entry Modules otherwise = tt
-entry Modules end_of_condition = tt
-entry Modules (end_of_level v) = entry_level Modules v (eqb v 1) (eqb v 0) refl refl
-entry Modules return = tt
+abbrev pub entry : (w : Want) (k : Kind) → Entry w k (move_of w k)
+entry w (end_of_level v) = entry_level (eqb v 1) (eqb v 0) w v refl refl
 entry Modules (label n) = (enters, refl, λ s f. ((module_of n f.0.0 ∷ f.1.0, f.1.1), ap (λ k. label n ∷ spell_cmds f.0.0 (k ∷ spell_forest (Modules ∷ s) f.1)) (ends_so n)))
-entry Modules (call n) = tt
 entry (Commands l) bracket_opens = (begins, refl, λ s f. (((and_then (loading (bracket_loaded f.0 f.1.0)) f.1.1.0.0, f.1.1.0.1), f.1.1.1), refl))
-entry (Commands l) bracket_closes = tt
-entry (Commands l) (number v) = tt
 entry (Commands l) (load_number v) = (keeps, refl, λ s f. (((and_then (loading (number_loaded v)) f.0.0, f.0.1), f.1), refl))
 entry (Commands l) (load_bit c n) = (keeps, refl, λ s f. (((and_then (loading (bit_loaded c n)) f.0.0, f.0.1), f.1), refl))
 entry (Commands l) (load_word c n) = (keeps, refl, λ s f. (((and_then (loading (word_loaded c n)) f.0.0, f.0.1), f.1), refl))
@@ -83,95 +42,28 @@ entry (Commands l) (switch c n) = (keeps, refl, λ s f. (((and_then (acting (swi
 entry (Commands l) (test c n) = (tests, refl, λ s f. (((and_then (choosing (bit_tested c n) f.0.0 f.0.1) f.1.0.0, f.1.0.1), f.1.1), refl))
 entry (Commands l) (operator o) = (operates, refl, λ s f. (((and_then (applying o f.0) f.1.0.0, f.1.0.1), f.1.1), refl))
 entry (Commands l) (comparison o) = (compares, refl, λ s f. (((and_then (choosing (compared o f.0) f.1.0.0 f.1.0.1) f.1.1.0.0, f.1.1.0.1), f.1.1.1), refl))
-entry (Commands (Body e)) otherwise = tt
 entry (Commands (Inside Then)) otherwise = (turns, refl, λ s f. (((done, else_do f.0.0), f.1), refl))
-entry (Commands (Inside Otherwise)) otherwise = tt
-entry (Commands (Body e)) end_of_condition = tt
-entry (Commands (Inside Then)) end_of_condition = (leaves_then, refl, λ s f. (((done, no_else), f), refl))
-entry (Commands (Inside Otherwise)) end_of_condition = (leaves_otherwise, refl, λ s f. (((done, tt), f), refl))
-entry (Commands l) (end_of_level v) = entry_level (Commands l) v (eqb v 1) (eqb v 0) refl refl
+entry (Commands (Inside Then)) end_of_condition = (leaves, refl, λ s f. (((done, no_else), f), refl))
+entry (Commands (Inside Otherwise)) end_of_condition = (leaves, refl, λ s f. (((done, tt), f), refl))
 entry (Commands (Body Return)) return = (finishes, refl, λ s f. (((done, tt), f), refl))
-entry (Commands (Body Level0)) return = tt
-entry (Commands (Body Level1)) return = tt
-entry (Commands (Inside b)) return = tt
-entry (Commands l) (label n) = tt
 entry (Commands l) (call n) = (keeps, refl, λ s f. (((and_then (acting (called n)) f.0.0, f.0.1), f.1), refl))
-entry First bracket_opens = (nests_first, refl, λ s f. ((bracket_loaded f.0 f.1.0, f.1.1), refl))
-entry First bracket_closes = tt
-entry First (number v) = tt
-entry First (load_number v) = (fills_first, refl, λ s f. ((number_loaded v, f), refl))
-entry First (load_bit c n) = (fills_first, refl, λ s f. ((bit_loaded c n, f), refl))
-entry First (load_word c n) = (fills_first, refl, λ s f. ((word_loaded c n, f), refl))
-entry First (store_bit c n) = tt
-entry First (store_word c n) = tt
-entry First (switch c n) = tt
-entry First (test c n) = tt
-entry First (operator o) = tt
-entry First (comparison o) = tt
-entry First otherwise = tt
-entry First end_of_condition = tt
-entry First (end_of_level v) = entry_level First v (eqb v 1) (eqb v 0) refl refl
-entry First return = tt
-entry First (label n) = tt
-entry First (call n) = tt
-entry Rest bracket_opens = tt
+entry (Pending First) bracket_opens = (nests_first, refl, λ s f. ((bracket_loaded f.0 f.1.0, f.1.1), refl))
+entry (Pending First) (load_number v) = (fills, refl, λ s f. ((number_loaded v, f), refl))
+entry (Pending First) (load_bit c n) = (fills, refl, λ s f. ((bit_loaded c n, f), refl))
+entry (Pending First) (load_word c n) = (fills, refl, λ s f. ((word_loaded c n, f), refl))
 entry Rest bracket_closes = (unnests, refl, λ s f. ((no_more, f), refl))
-entry Rest (number v) = tt
-entry Rest (load_number v) = tt
-entry Rest (load_bit c n) = tt
-entry Rest (load_word c n) = tt
-entry Rest (store_bit c n) = tt
-entry Rest (store_word c n) = tt
-entry Rest (switch c n) = tt
-entry Rest (test c n) = tt
 entry Rest (operator o) = (operates_rest, refl, λ s f. ((apply_then o f.0 f.1.0, f.1.1), refl))
-entry Rest (comparison o) = tt
-entry Rest otherwise = tt
-entry Rest end_of_condition = tt
-entry Rest (end_of_level v) = entry_level Rest v (eqb v 1) (eqb v 0) refl refl
-entry Rest return = tt
-entry Rest (label n) = tt
-entry Rest (call n) = tt
-entry Operand! bracket_opens = (nests_operand, refl, λ s f. ((bracket_taken f.0 f.1.0, f.1.1), refl))
-entry Operand! bracket_closes = tt
-entry Operand! (number v) = (fills_operand, refl, λ s f. ((number_taken v, f), refl))
-entry Operand! (load_number v) = tt
-entry Operand! (load_bit c n) = (fills_operand, refl, λ s f. ((bit_taken c n, f), refl))
-entry Operand! (load_word c n) = (fills_operand, refl, λ s f. ((word_taken c n, f), refl))
-entry Operand! (store_bit c n) = tt
-entry Operand! (store_word c n) = tt
-entry Operand! (switch c n) = tt
-entry Operand! (test c n) = tt
-entry Operand! (operator o) = tt
-entry Operand! (comparison o) = tt
-entry Operand! otherwise = tt
-entry Operand! end_of_condition = tt
-entry Operand! (end_of_level v) = entry_level Operand! v (eqb v 1) (eqb v 0) refl refl
-entry Operand! return = tt
-entry Operand! (label n) = tt
-entry Operand! (call n) = tt
-entry Comparand! bracket_opens = tt
-entry Comparand! bracket_closes = tt
-entry Comparand! (number v) = (fills_comparand, refl, λ s f. ((with_number v, f), refl))
-entry Comparand! (load_number v) = tt
-entry Comparand! (load_bit c n) = tt
-entry Comparand! (load_word c n) = (fills_comparand, refl, λ s f. ((with_word c n, f), refl))
-entry Comparand! (store_bit c n) = tt
-entry Comparand! (store_word c n) = tt
-entry Comparand! (switch c n) = tt
-entry Comparand! (test c n) = tt
-entry Comparand! (operator o) = tt
-entry Comparand! (comparison o) = tt
-entry Comparand! otherwise = tt
-entry Comparand! end_of_condition = tt
-entry Comparand! (end_of_level v) = entry_level Comparand! v (eqb v 1) (eqb v 0) refl refl
-entry Comparand! return = tt
-entry Comparand! (label n) = tt
-entry Comparand! (call n) = tt
+entry (Pending Operand!) bracket_opens = (nests_operand, refl, λ s f. ((bracket_taken f.0 f.1.0, f.1.1), refl))
+entry (Pending Operand!) (number v) = (fills, refl, λ s f. ((number_taken v, f), refl))
+entry (Pending Operand!) (load_bit c n) = (fills, refl, λ s f. ((bit_taken c n, f), refl))
+entry (Pending Operand!) (load_word c n) = (fills, refl, λ s f. ((word_taken c n, f), refl))
+entry (Pending Comparand!) (number v) = (fills, refl, λ s f. ((with_number v, f), refl))
+entry (Pending Comparand!) (load_word c n) = (fills, refl, λ s f. ((with_word c n, f), refl))
+entry w k = tt
 
 -- 1. the machine goes through what a tree spells
 mutual
-  run_load : (l : Load) (s : List Want) (r : List Kind) → run (First ∷ s) (spell_load l r) ≡ run s r
+  run_load : (l : Load) (s : List Want) (r : List Kind) → run (Pending First ∷ s) (spell_load l r) ≡ run s r
   run_load (number_loaded v) s r = refl
   run_load (bit_loaded c n) s r = refl
   run_load (word_loaded c n) s r = refl
@@ -181,7 +73,7 @@ mutual
   run_ops no_more s r = refl
   run_ops (apply_then o x os) s r = run_operand x (Rest ∷ s) (spell_ops os r) ∙ run_ops os s r
 
-  run_operand : (x : Operand) (s : List Want) (r : List Kind) → run (Operand! ∷ s) (spell_operand x r) ≡ run s r
+  run_operand : (x : Operand) (s : List Want) (r : List Kind) → run (Pending Operand! ∷ s) (spell_operand x r) ≡ run s r
   run_operand (number_taken v) s r = refl
   run_operand (bit_taken c n) s r = refl
   run_operand (word_taken c n) s r = refl
@@ -239,12 +131,12 @@ complete (module_of n cs ∷ ms) =
 back_step : (s : List Want) (k : Kind) (ks : List Kind) (s' : List Want) (f : Forest s')
     → ((v : List Want) → run v ks ≡ Some s' → (g : Forest v) × (spell_forest v g ≡ ks ++ spell_forest s' f))
     → run s (k ∷ ks) ≡ Some s' → (g : Forest s) × (spell_forest s g ≡ k ∷ (ks ++ spell_forest s' f))
-back_step [] k ks s' f ih e = absurd (let z : ◌≡◌ {A = ℕ} 0 1 = cc in omega arith)
-back_step (w ∷ s) k ks s' f ih e = go (rule_of w (class_of k)) (entry w k) e
+back_step [] k ks s' f ih e = cc
+back_step (w ∷ s) k ks s' f ih e = go (move_of w k) (entry w k) e
   where
     go : (o : Option Move) → Entry w k o → then_run (moved o w s) (λ v. run v ks) ≡ Some s'
         → (g : Forest (w ∷ s)) × (spell_forest (w ∷ s) g ≡ k ∷ (ks ++ spell_forest s' f))
-    go None x d = absurd (let z : ◌≡◌ {A = ℕ} 0 1 = cc in omega arith)
+    go None x d = cc
     go (Some m) x d =
         let later = ih (applied m w s) d in
         let here = x.2 s later.0 in
@@ -263,10 +155,10 @@ some_tail (Inside Otherwise) = tt
 some_tree : (w : Want) → Tree w
 some_tree Modules = []
 some_tree (Commands l) = (done, some_tail l)
-some_tree First = number_loaded 0
+some_tree (Pending First) = number_loaded 0
 some_tree Rest = no_more
-some_tree Operand! = number_taken 0
-some_tree Comparand! = with_number 0
+some_tree (Pending Operand!) = number_taken 0
+some_tree (Pending Comparand!) = with_number 0
 
 some_forest : (s : List Want) → Forest s
 some_forest [] = tt
@@ -298,5 +190,4 @@ pub run_of_begins : (ks : List Kind) → run start ks ≡ None → Begins ks →
 run_of_begins ks e x =
     let h = run_of_text (ks ++ x.0) x.1 in
     let k = run_append start ks x.0 in
-    let z : ◌≡◌ {A = ℕ} 0 1 = cc in
-    omega arith
+    cc

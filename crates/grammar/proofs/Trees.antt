@@ -7,10 +7,11 @@ use Rattle.grammar.specs.declared.table.Branch.TheVariants.{Then, Otherwise}
 use Rattle.grammar.specs.declared.table.Block.{Block}
 use Rattle.grammar.specs.declared.table.Block.TheVariants.{Body, Branch as Inside}
 use Rattle.grammar.specs.declared.table.Want.{Want}
-use Rattle.grammar.specs.declared.table.Want.TheVariants.{Modules, Commands, First, Rest, Operand as Operand!, Comparand as Comparand! }
+use Rattle.grammar.specs.declared.table.Pending.TheVariants.{First, Operand as Operand!, Comparand as Comparand! }
+use Rattle.grammar.specs.declared.table.Want.TheVariants.{Modules, Commands, Pending, Rest}
 use Rattle.grammar.specs.declared.table.Move.{Move}
 use Rattle.grammar.specs.Grammar.{Load, number_loaded, bit_loaded, word_loaded, bracket_loaded, Ops, no_more, apply_then, Operand, number_taken, bit_taken, word_taken, bracket_taken, bit_stored, word_stored, switched, called, Comparand, with_number, with_word, bit_tested, compared, Command, loading, applying, acting, choosing, Cmds, done, and_then, Alternative, no_else, else_do, Module, module_of, spell_load, spell_ops, spell_operand, spell_comparand, spell_command, spell_cmds, spell_alternative, spell, OneTree}
-use Rattle.grammar.specs.Machine.{ending, class_of, ender, Tail, spell_tail, Forest, applied, rule_of, Entry, start}
+use Rattle.grammar.specs.Machine.{ending, ender, Tail, spell_tail, Forest, applied, move_of, Entry, start}
 use Rattle.grammar.proofs.Tables.{ends_so, entry}
 
 abbrev on_some : {A B : Type 0} → (A → B) → Option A → Option B
@@ -26,14 +27,8 @@ by h g y x e = ap (on_some h) e ∙ on_some_twice h g x
 
 -- what the tokens are, as a forest of the stack: at the end only modules may be due
 abbrev finished : (s : List Want) → Option (Forest s)
-finished [] = None
 finished (Modules ∷ []) = Some ([], tt)
-finished (Modules ∷ w ∷ s) = None
-finished (Commands l ∷ s) = None
-finished (First ∷ s) = None
-finished (Rest ∷ s) = None
-finished (Operand! ∷ s) = None
-finished (Comparand! ∷ s) = None
+finished s = None
 
 abbrev onward : (w : Want) (k : Kind) (s : List Want) (o : Option Move) → Entry w k o → ((v : List Want) → Option (Forest v)) → Option (Forest (w ∷ s))
 onward w k s None x f = None
@@ -42,17 +37,17 @@ onward w k s (Some m) x f = on_some (λ g. (x.2 s g).0) (f (applied m w s))
 abbrev parsed : List Kind → (s : List Want) → Option (Forest s)
 parsed [] s = finished s
 parsed (k ∷ ks) [] = None
-parsed (k ∷ ks) (w ∷ s) = onward w k s (rule_of w (class_of k)) (entry w k) (λ v. parsed ks v)
+parsed (k ∷ ks) (w ∷ s) = onward w k s (move_of w k) (entry w k) (λ v. parsed ks v)
 
 -- a tree that was spelled is found again
-bracket : {C : Type 0} (l : Load) (os : Ops) (s : List Want) (r : List Kind) (h : Forest (First ∷ Rest ∷ s) → C)
-    → parsed (spell_load l (spell_ops os (bracket_closes ∷ r))) (First ∷ Rest ∷ s) ≡ on_some (λ f. (l, f)) (parsed (spell_ops os (bracket_closes ∷ r)) (Rest ∷ s))
+bracket : {C : Type 0} (l : Load) (os : Ops) (s : List Want) (r : List Kind) (h : Forest (Pending First ∷ Rest ∷ s) → C)
+    → parsed (spell_load l (spell_ops os (bracket_closes ∷ r))) (Pending First ∷ Rest ∷ s) ≡ on_some (λ f. (l, f)) (parsed (spell_ops os (bracket_closes ∷ r)) (Rest ∷ s))
     → parsed (spell_ops os (bracket_closes ∷ r)) (Rest ∷ s) ≡ on_some (λ f. (os, f)) (parsed r s)
-    → on_some h (parsed (spell_load l (spell_ops os (bracket_closes ∷ r))) (First ∷ Rest ∷ s)) ≡ on_some (λ f. h (l, (os, f))) (parsed r s)
+    → on_some h (parsed (spell_load l (spell_ops os (bracket_closes ∷ r))) (Pending First ∷ Rest ∷ s)) ≡ on_some (λ f. h (l, (os, f))) (parsed r s)
 bracket l os s r h p q = by h (λ f. (l, f)) _ _ p ∙ by (λ f. h (l, f)) (λ f. (os, f)) _ _ q
 
 mutual
-  parse_load : (l : Load) (s : List Want) (r : List Kind) → parsed (spell_load l r) (First ∷ s) ≡ on_some (λ f. (l, f)) (parsed r s)
+  parse_load : (l : Load) (s : List Want) (r : List Kind) → parsed (spell_load l r) (Pending First ∷ s) ≡ on_some (λ f. (l, f)) (parsed r s)
   parse_load (number_loaded v) s r = refl
   parse_load (bit_loaded c n) s r = refl
   parse_load (word_loaded c n) s r = refl
@@ -65,14 +60,14 @@ mutual
       by (λ f. (apply_then o f.0 f.1.0, f.1.1)) (λ f. (x, f)) _ _ (parse_operand x (Rest ∷ s) (spell_ops os (bracket_closes ∷ r)))
       ∙ by (λ f. (apply_then o x f.0, f.1)) (λ f. (os, f)) _ _ (parse_ops os s r)
 
-  parse_operand : (x : Operand) (s : List Want) (r : List Kind) → parsed (spell_operand x r) (Operand! ∷ s) ≡ on_some (λ f. (x, f)) (parsed r s)
+  parse_operand : (x : Operand) (s : List Want) (r : List Kind) → parsed (spell_operand x r) (Pending Operand! ∷ s) ≡ on_some (λ f. (x, f)) (parsed r s)
   parse_operand (number_taken v) s r = refl
   parse_operand (bit_taken c n) s r = refl
   parse_operand (word_taken c n) s r = refl
   parse_operand (bracket_taken l os) s r =
       bracket l os s r (λ f. (bracket_taken f.0 f.1.0, f.1.1)) (parse_load l (Rest ∷ s) (spell_ops os (bracket_closes ∷ r))) (parse_ops os s r)
 
-parse_comparand : (x : Comparand) (s : List Want) (r : List Kind) → parsed (spell_comparand x r) (Comparand! ∷ s) ≡ on_some (λ f. (x, f)) (parsed r s)
+parse_comparand : (x : Comparand) (s : List Want) (r : List Kind) → parsed (spell_comparand x r) (Pending Comparand! ∷ s) ≡ on_some (λ f. (x, f)) (parsed r s)
 parse_comparand (with_number v) s r = refl
 parse_comparand (with_word c n) s r = refl
 

@@ -55,8 +55,7 @@ same_tokens text ts us a b = let e = one_reading text (Ok ts) (Ok us) a b in (le
 not_both : (text : List ℕ) (ts : List Item) (e : ReadFault) → Read text (Ok ts) → Read text (Err e) → ⊥
 not_both text ts e a b =
     let q = one_reading text (Ok ts) (Err e) a b in
-    let z : ◌≡◌ {A = ℕ} 0 1 = cc in
-    omega arith
+    cc
 
 same_shape : (text : List ℕ) (s t : Shape) → Accepted text s → Accepted text t → s ≡ t
 same_shape text s t a b =

@@ -11,15 +11,19 @@ use Rattle.reading.specs.Verdict.{Verdict as Read}
 use Rattle.reading.proofs.Verdicts.{one_verdict as one_reading}
 use Rattle.grammar.specs.declared.GrammarFault.{GrammarFault}
 use Rattle.grammar.specs.declared.GrammarFault.TheVariants.{Reading, Unexpected, TooDeep}
-use Rattle.grammar.specs.declared.state.State.{State}
-use Rattle.grammar.specs.declared.table.Branch.{Branch}
 use Rattle.grammar.specs.declared.table.Want.{Want}
 use Rattle.grammar.specs.declared.table.Want.TheVariants.{Modules}
 use Rattle.grammar.specs.Limits.{begun_modules}
-use Rattle.grammar.specs.Parsing.{wants_of, head_of, Sofar, AtFault, Parsed}
+use Rattle.grammar.specs.Parsing.{State, wants_of, head_of, Sofar, AtFault, Parsed}
 use Rattle.grammar.specs.Verdict.{item_kind, kinds, Refused, Verdict, Holds, MemoryAfter}
 use Rattle.grammar.proofs.Counts.{modules_counted}
+use Rattle.grammar.proofs.Nesting.{limits_agree, stack_suffices}
+use Rattle.grammar.proofs.Trees.{one_tree}
+use Rattle.grammar.proofs.Verdicts.{one_verdict}
 use Rattle.grammar.proofs.Turns.{whole, cut_short}
+
+-- the theorems that hold of each text
+pub ruleset theorems = (one_verdict, one_tree, limits_agree, stack_suffices)
 
 -- memory
 pub kept : (text : List ℕ) (new old : List Placed) (e : ReadFault) → Read text (Err e) → new ≡ old → MemoryAfter text new old
@@ -44,15 +48,15 @@ module _ (text : List ℕ) (ts : List Item) (read : Read text (Ok ts)) where
     place = f.place ∙ sym (get_or-map (λ (t : Item). t.place) ts f.index blank_item (walk start text) f.inside);
   }
 
-  pub fault_verdict : (bs : List Branch) (e : GrammarFault) → Parsed ts bs (Err e) → Verdict text (Err e)
-  fault_verdict bs (Reading e) f = absurd f
-  fault_verdict bs (Unexpected p) f = at_token p f
-  fault_verdict bs (TooDeep p) f = at_token p f
+  pub fault_verdict : (e : GrammarFault) → Parsed ts (Err e) → Verdict text (Err e)
+  fault_verdict (Reading e) f = absurd f
+  fault_verdict (Unexpected p) f = at_token p f
+  fault_verdict (TooDeep p) f = at_token p f
 
-  module _ (st : State) (bs : List Branch) (h : Sofar (kinds ts) (length ts) st bs) where
-    pub whole_verdict : (n : ℕ) → length ts ≡ n → Modules ≡ head_of (wants_of st bs) → Verdict text (Ok (record { tokens = n; modules = st.modules }))
-    whole_verdict n long e =
-        let w = whole ts st bs h (sym e) in
+  module _ (st : State) (h : Sofar (kinds ts) (length ts) st) where
+    pub whole_verdict : (n m : ℕ) → length ts ≡ n → m ≡ st.modules → Modules ≡ head_of (wants_of st) → Verdict text (Ok (record { tokens = n; modules = m }))
+    whole_verdict n m long begun e =
+        let w = whole ts st h (sym e) in
         let all = take_all (length ts) (kinds ts) (omega (arith, length-map ts item_kind)) in
         record {
           tokens = ts;
@@ -61,14 +65,14 @@ module _ (text : List ℕ) (ts : List Item) (read : Read text (Ok ts)) where
           spelled = w.0.1;
           within = w.1;
           token_count = sym long;
-          module_count = h.modules ∙ ap begun_modules (all ∙ sym w.0.1) ∙ modules_counted w.0.0;
+          module_count = begun ∙ h.modules ∙ ap begun_modules (all ∙ sym w.0.1) ∙ modules_counted w.0.0;
         }
 
-    pub end_verdict : (p : Place) → p ≡ walk start text → (w : Want) → w ≡ head_of (wants_of st bs) → (w ≡ Modules → ⊥) → Verdict text (Err (Unexpected p))
+    pub end_verdict : (p : Place) → p ≡ walk start text → (w : Want) → w ≡ head_of (wants_of st) → (w ≡ Modules → ⊥) → Verdict text (Err (Unexpected p))
     end_verdict p e w due ne = record {
       tokens = ts;
       index = length ts;
       read = read;
-      fault = cut_short ts st bs h (λ q. ne (due ∙ q));
+      fault = cut_short ts st h (λ q. ne (due ∙ q));
       place = e ∙ sym (get_or_past (map (λ (t : Item). t.place) ts) (length ts) (walk start text) (omega (arith, length-map ts (λ (t : Item). t.place))));
     }

@@ -1,9 +1,10 @@
 -- Number, layer and place of each fault. Assumes nothing.
-use Rattle.std.specs.Prelude.{ℕ}
+use Rattle.std.specs.Prelude.{ℕ, refl}
 use Rattle.faults.specs.declared.Layer.{Layer}
 use Rattle.faults.specs.declared.Layer.TheVariants.{Grammar}
+use Rattle.faults.specs.Layers.{CauseOfItsLayer}
 use Rattle.faults.specs.declared.Place.{Place}
-use Rattle.reading.specs.Faults.{cause_of as read_cause, layer_of as read_layer, place_of as read_place}
+use Rattle.reading.specs.Faults.{cause_of as read_cause, layer_of as read_layer, place_of as read_place, causes_of_reading}
 use Rattle.grammar.specs.declared.GrammarFault.{GrammarFault}
 use Rattle.grammar.specs.declared.GrammarFault.TheVariants.{Reading, Unexpected, TooDeep}
 
@@ -21,3 +22,9 @@ abbrev pub place_of : GrammarFault → Place
 place_of (Reading e) = read_place e
 place_of (Unexpected p) = p
 place_of (TooDeep p) = p
+
+-- the causes are those of the layers up to the grammar
+pub causes_to_grammar : CauseOfItsLayer cause_of layer_of
+causes_to_grammar (Reading e) = causes_of_reading e
+causes_to_grammar (Unexpected p) = refl
+causes_to_grammar (TooDeep p) = refl

@@ -4,12 +4,15 @@ use Rattle.tokens.specs.Tokens.{Kind, bracket_opens, bracket_closes, number, loa
 use Rattle.grammar.specs.declared.table.Ending.{Ending}
 use Rattle.grammar.specs.declared.table.Ending.TheVariants.{Return, Level0, Level1}
 use Rattle.grammar.specs.declared.table.Class.{Class}
-use Rattle.grammar.specs.declared.table.Class.TheVariants.{Unplaced, Label, End, LoadNumber, LoadBit, LoadWord, Number, Operator, Open, Close, Action, BitTest, Comparison, Else, EndIf}
+use Rattle.grammar.specs.declared.table.Class.TheVariants.{Label, End, LoadNumber, LoadBit, LoadWord, Number, Operator, Open, Close, Action, BitTest, Comparison, Else, EndIf}
+use Rattle.grammar.specs.declared.table.Branch.{Branch}
 use Rattle.grammar.specs.declared.table.Branch.TheVariants.{Then, Otherwise}
 use Rattle.grammar.specs.declared.table.Block.{Block}
 use Rattle.grammar.specs.declared.table.Block.TheVariants.{Body, Branch as Inside}
 use Rattle.grammar.specs.declared.table.Want.{Want}
-use Rattle.grammar.specs.declared.table.Want.TheVariants.{Modules, Commands, First, Rest, Operand as Operand!, Comparand as Comparand! }
+use Rattle.grammar.specs.declared.table.Pending.{Pending}
+use Rattle.grammar.specs.declared.table.Pending.TheVariants.{First, Operand as Operand!, Comparand as Comparand! }
+use Rattle.grammar.specs.declared.table.Want.TheVariants.{Modules, Commands, Pending as Pending!, Rest}
 use Rattle.grammar.specs.declared.table.Move.{Move}
 use Rattle.grammar.specs.declared.table.Move.TheVariants.{Keep, Fill, Begin, Nest, Operate, Unnest, Enter, Test as Test!, Compare, Turn, Leave, Finish}
 use Rattle.grammar.specs.Grammar.{Load, Ops, Operand, Comparand, Cmds, Alternative, Module, spell_load, spell_ops, spell_operand, spell_comparand, spell_cmds, spell_alternative, spell_modules}
@@ -19,25 +22,26 @@ use Rattle.grammar.specs.Limits.{Role, plain, opens_bracket, closes_bracket, ope
 abbrev pub ending : ℕ → Ending
 ending n = cond (n == 1) Level1 (cond (n == 0) Level0 Return)
 
-abbrev pub class_of : Kind → Class
-class_of bracket_opens = Open
-class_of bracket_closes = Close
-class_of (number v) = Number
-class_of (load_number v) = LoadNumber
-class_of (load_bit c n) = LoadBit
-class_of (load_word c n) = LoadWord
-class_of (store_bit c n) = Action
-class_of (store_word c n) = Action
-class_of (switch c on) = Action
-class_of (test c n) = BitTest
-class_of (operator o) = Operator
-class_of (comparison o) = Comparison
-class_of otherwise = Else
-class_of end_of_condition = EndIf
-class_of (end_of_level v) = cond (v == 1) (End Level1) (cond (v == 0) (End Level0) Unplaced)
-class_of return = End Return
-class_of (label n) = Label (ending n)
-class_of (call n) = Action
+-- a token by its part in the grammar, if it has one
+abbrev pub class_of : Kind → Option Class
+class_of bracket_opens = Some Open
+class_of bracket_closes = Some Close
+class_of (number v) = Some Number
+class_of (load_number v) = Some LoadNumber
+class_of (load_bit c n) = Some LoadBit
+class_of (load_word c n) = Some LoadWord
+class_of (store_bit c n) = Some Action
+class_of (store_word c n) = Some Action
+class_of (switch c on) = Some Action
+class_of (test c n) = Some BitTest
+class_of (operator o) = Some Operator
+class_of (comparison o) = Some Comparison
+class_of otherwise = Some Else
+class_of end_of_condition = Some EndIf
+class_of (end_of_level v) = cond (v == 1) (Some (End Level1)) (cond (v == 0) (Some (End Level0)) None)
+class_of return = Some (End Return)
+class_of (label n) = Some (Label (ending n))
+class_of (call n) = Some Action
 
 -- what ends a run of commands
 abbrev pub Tail : Block → Type 0
@@ -59,18 +63,18 @@ spell_tail (Inside Otherwise) x rest = end_of_condition ∷ rest
 abbrev pub Tree : Want → Type 0
 Tree Modules = List Module
 Tree (Commands l) = Cmds × Tail l
-Tree First = Load
+Tree (Pending! First) = Load
 Tree Rest = Ops
-Tree Operand! = Operand
-Tree Comparand! = Comparand
+Tree (Pending! Operand!) = Operand
+Tree (Pending! Comparand!) = Comparand
 
 abbrev pub spell_tree : (w : Want) → Tree w → List Kind → List Kind
 spell_tree Modules ms rest = spell_modules ms rest
 spell_tree (Commands l) x rest = spell_cmds x.0 (spell_tail l x.1 rest)
-spell_tree First x rest = spell_load x rest
+spell_tree (Pending! First) x rest = spell_load x rest
 spell_tree Rest os rest = spell_ops os (bracket_closes ∷ rest)
-spell_tree Operand! x rest = spell_operand x rest
-spell_tree Comparand! x rest = spell_comparand x rest
+spell_tree (Pending! Operand!) x rest = spell_operand x rest
+spell_tree (Pending! Comparand!) x rest = spell_comparand x rest
 
 abbrev pub Forest : List Want → Type 0
 Forest [] = Unit {0}
@@ -88,41 +92,35 @@ Back s k s' = (f : Forest s') → (g : Forest s) × (spell_forest s g ≡ k ∷ 
 abbrev pub applied : Move → Want → List Want → List Want
 applied Keep w s = w ∷ s
 applied Fill w s = s
-applied Begin w s = First ∷ Rest ∷ w ∷ s
-applied Nest w s = First ∷ Rest ∷ s
-applied Operate w s = Operand! ∷ w ∷ s
+applied Begin w s = Pending! First ∷ Rest ∷ w ∷ s
+applied Nest w s = Pending! First ∷ Rest ∷ s
+applied Operate w s = Pending! Operand! ∷ w ∷ s
 applied Unnest w s = s
 applied (Enter e) w s = Commands (Body e) ∷ w ∷ s
 applied Test! w s = Commands (Inside Then) ∷ w ∷ s
-applied Compare w s = Comparand! ∷ Commands (Inside Then) ∷ w ∷ s
+applied Compare w s = Pending! Comparand! ∷ Commands (Inside Then) ∷ w ∷ s
 applied Turn w s = Commands (Inside Otherwise) ∷ s
 applied Leave w s = s
 applied Finish w s = s
 
 -- the role of the tokens that make a move
 abbrev pub role_of : Move → Role
-role_of Keep = plain
-role_of Fill = plain
 role_of Begin = opens_bracket
 role_of Nest = opens_bracket
-role_of Operate = plain
 role_of Unnest = closes_bracket
 role_of (Enter e) = opens_module
 role_of Test! = opens_condition
 role_of Compare = opens_condition
-role_of Turn = plain
 role_of Leave = closes_condition
-role_of Finish = plain
+role_of m = plain
 
 -- the moves that are made where w is due
 pub data Fits : Want → Move → Type 0 where
   keeps : {l : Block} → Fits (Commands l) Keep
-  fills_first : Fits First Fill
-  fills_operand : Fits Operand! Fill
-  fills_comparand : Fits Comparand! Fill
+  fills : {p : Pending} → Fits (Pending! p) Fill
   begins : {l : Block} → Fits (Commands l) Begin
-  nests_first : Fits First Nest
-  nests_operand : Fits Operand! Nest
+  nests_first : Fits (Pending! First) Nest
+  nests_operand : Fits (Pending! Operand!) Nest
   operates : {l : Block} → Fits (Commands l) Operate
   operates_rest : Fits Rest Operate
   unnests : Fits Rest Unnest
@@ -130,115 +128,44 @@ pub data Fits : Want → Move → Type 0 where
   tests : {l : Block} → Fits (Commands l) Test!
   compares : {l : Block} → Fits (Commands l) Compare
   turns : Fits (Commands (Inside Then)) Turn
-  leaves_then : Fits (Commands (Inside Then)) Leave
-  leaves_otherwise : Fits (Commands (Inside Otherwise)) Leave
+  leaves : {b : Branch} → Fits (Commands (Inside b)) Leave
   finishes : {e : Ending} → Fits (Commands (Body e)) Finish
 
--- the table: the move of a token where w is due
+-- the table: the move of a token of a class where w is due, if a text goes on so
 abbrev pub rule_of : Want → Class → Option Move
-rule_of Modules Unplaced = None
 rule_of Modules (Label e) = Some (Enter e)
-rule_of Modules (End e) = None
-rule_of Modules LoadNumber = None
-rule_of Modules LoadBit = None
-rule_of Modules LoadWord = None
-rule_of Modules Number = None
-rule_of Modules Operator = None
-rule_of Modules Open = None
-rule_of Modules Close = None
-rule_of Modules Action = None
-rule_of Modules BitTest = None
-rule_of Modules Comparison = None
-rule_of Modules Else = None
-rule_of Modules EndIf = None
-rule_of (Commands l) Unplaced = None
-rule_of (Commands l) (Label e) = None
-rule_of (Commands (Body Return)) (End Return) = Some Finish
-rule_of (Commands (Body Return)) (End Level0) = None
-rule_of (Commands (Body Return)) (End Level1) = None
-rule_of (Commands (Body Level0)) (End Return) = None
-rule_of (Commands (Body Level0)) (End Level0) = Some Finish
-rule_of (Commands (Body Level0)) (End Level1) = None
-rule_of (Commands (Body Level1)) (End Return) = None
-rule_of (Commands (Body Level1)) (End Level0) = None
-rule_of (Commands (Body Level1)) (End Level1) = Some Finish
-rule_of (Commands (Inside b)) (End e) = None
 rule_of (Commands l) LoadNumber = Some Keep
 rule_of (Commands l) LoadBit = Some Keep
 rule_of (Commands l) LoadWord = Some Keep
-rule_of (Commands l) Number = None
+rule_of (Commands l) Action = Some Keep
 rule_of (Commands l) Operator = Some Operate
 rule_of (Commands l) Open = Some Begin
-rule_of (Commands l) Close = None
-rule_of (Commands l) Action = Some Keep
 rule_of (Commands l) BitTest = Some Test!
 rule_of (Commands l) Comparison = Some Compare
-rule_of (Commands (Body e)) Else = None
 rule_of (Commands (Inside Then)) Else = Some Turn
-rule_of (Commands (Inside Otherwise)) Else = None
-rule_of (Commands (Body e)) EndIf = None
-rule_of (Commands (Inside Then)) EndIf = Some Leave
-rule_of (Commands (Inside Otherwise)) EndIf = Some Leave
-rule_of First Unplaced = None
-rule_of First (Label e) = None
-rule_of First (End e) = None
-rule_of First LoadNumber = Some Fill
-rule_of First LoadBit = Some Fill
-rule_of First LoadWord = Some Fill
-rule_of First Number = None
-rule_of First Operator = None
-rule_of First Open = Some Nest
-rule_of First Close = None
-rule_of First Action = None
-rule_of First BitTest = None
-rule_of First Comparison = None
-rule_of First Else = None
-rule_of First EndIf = None
-rule_of Rest Unplaced = None
-rule_of Rest (Label e) = None
-rule_of Rest (End e) = None
-rule_of Rest LoadNumber = None
-rule_of Rest LoadBit = None
-rule_of Rest LoadWord = None
-rule_of Rest Number = None
+rule_of (Commands (Inside b)) EndIf = Some Leave
+rule_of (Commands (Body Return)) (End Return) = Some Finish
+rule_of (Commands (Body Level0)) (End Level0) = Some Finish
+rule_of (Commands (Body Level1)) (End Level1) = Some Finish
+rule_of (Pending! p) LoadWord = Some Fill
+rule_of (Pending! First) LoadNumber = Some Fill
+rule_of (Pending! First) LoadBit = Some Fill
+rule_of (Pending! First) Open = Some Nest
+rule_of (Pending! Operand!) Number = Some Fill
+rule_of (Pending! Operand!) LoadBit = Some Fill
+rule_of (Pending! Operand!) Open = Some Nest
+rule_of (Pending! Comparand!) Number = Some Fill
 rule_of Rest Operator = Some Operate
-rule_of Rest Open = None
 rule_of Rest Close = Some Unnest
-rule_of Rest Action = None
-rule_of Rest BitTest = None
-rule_of Rest Comparison = None
-rule_of Rest Else = None
-rule_of Rest EndIf = None
-rule_of Operand! Unplaced = None
-rule_of Operand! (Label e) = None
-rule_of Operand! (End e) = None
-rule_of Operand! LoadNumber = None
-rule_of Operand! LoadBit = Some Fill
-rule_of Operand! LoadWord = Some Fill
-rule_of Operand! Number = Some Fill
-rule_of Operand! Operator = None
-rule_of Operand! Open = Some Nest
-rule_of Operand! Close = None
-rule_of Operand! Action = None
-rule_of Operand! BitTest = None
-rule_of Operand! Comparison = None
-rule_of Operand! Else = None
-rule_of Operand! EndIf = None
-rule_of Comparand! Unplaced = None
-rule_of Comparand! (Label e) = None
-rule_of Comparand! (End e) = None
-rule_of Comparand! LoadNumber = None
-rule_of Comparand! LoadBit = None
-rule_of Comparand! LoadWord = Some Fill
-rule_of Comparand! Number = Some Fill
-rule_of Comparand! Operator = None
-rule_of Comparand! Open = None
-rule_of Comparand! Close = None
-rule_of Comparand! Action = None
-rule_of Comparand! BitTest = None
-rule_of Comparand! Comparison = None
-rule_of Comparand! Else = None
-rule_of Comparand! EndIf = None
+rule_of w c = None
+
+abbrev pub ruled : Want → Option Class → Option Move
+ruled w None = None
+ruled w (Some c) = rule_of w c
+
+-- the move of a token where w is due
+abbrev pub move_of : Want → Kind → Option Move
+move_of w k = ruled w (class_of k)
 
 -- what an entry of the table owes to the grammar
 abbrev pub Entry : Want → Kind → Option Move → Type 0
@@ -251,7 +178,7 @@ moved (Some m) w s = Some (applied m w s)
 
 abbrev pub step : List Want → Kind → Option (List Want)
 step [] k = None
-step (w ∷ s) k = moved (rule_of w (class_of k)) w s
+step (w ∷ s) k = moved (move_of w k) w s
 
 abbrev pub then_run : Option (List Want) → (List Want → Option (List Want)) → Option (List Want)
 then_run None f = None

@@ -1,26 +1,33 @@
--- The parser's state and its stack of open conditions, read as the stack of what is due. Assumes nothing.
-use Rattle.std.specs.Prelude.{◌≡◌, ℕ, zero, suc, ◌<◌, Bool, cond, List, [], ◌∷◌, length, take, Some, None, Ok, Err, Option, Result, slice_index_or}
+-- The parser's state, read as the stack of what is due. Assumes nothing.
+use Rattle.std.specs.Prelude.{◌≡◌, ℕ, zero, suc, ◌<◌, Bool, List, [], ◌∷◌, length, take, Some, None, Ok, Err, Option, Result, slice_index_or}
 use Rattle.faults.specs.declared.Place.{Place}
 use Rattle.tokens.specs.Tokens.{Kind}
 use Rattle.reading.specs.Items.{Item, blank_item}
-use Rattle.stack.specs.declared.stacks.Full.{Full}
 use Rattle.stack.specs.Entries.{without_newest, with_newest}
 use Rattle.grammar.specs.declared.GrammarFault.{GrammarFault}
 use Rattle.grammar.specs.declared.GrammarFault.TheVariants.{Reading, Unexpected, TooDeep}
-use Rattle.grammar.specs.declared.state.Pending.{Pending}
-use Rattle.grammar.specs.declared.state.Pending.TheVariants.{Nothing, First as First?, Operand as Operand?, Comparand as Comparand?}
-use Rattle.grammar.specs.declared.state.State.{State}
 use Rattle.grammar.specs.declared.table.Ending.{Ending}
 use Rattle.grammar.specs.declared.table.Branch.{Branch}
 use Rattle.grammar.specs.declared.table.Branch.TheVariants.{Then, Otherwise}
 use Rattle.grammar.specs.declared.table.Block.TheVariants.{Body, Branch as Inside}
+use Rattle.grammar.specs.declared.table.Pending.{Pending}
+use Rattle.grammar.specs.declared.table.Pending.TheVariants.{First, Operand, Comparand}
 use Rattle.grammar.specs.declared.table.Want.{Want}
-use Rattle.grammar.specs.declared.table.Want.TheVariants.{Modules, Commands, First, Rest, Operand, Comparand}
+use Rattle.grammar.specs.declared.table.Want.TheVariants.{Modules, Commands, Pending as Pending!, Rest}
 use Rattle.grammar.specs.declared.table.Move.{Move}
-use Rattle.grammar.specs.declared.table.Move.TheVariants.{Keep, Fill, Begin, Nest, Operate, Unnest, Enter, Test, Compare, Turn, Leave, Finish}
+use Rattle.grammar.specs.declared.table.Move.TheVariants.{Fill, Begin, Nest, Operate, Unnest, Enter, Test, Compare, Turn, Leave, Finish}
 use Rattle.grammar.specs.Limits.{brackets_after, modules_after, open_brackets, open_conditions, begun_modules, room_for, Clear}
 use Rattle.grammar.specs.Machine.{role_of, run, start}
 use Rattle.grammar.specs.Verdict.{kinds, Stops, Exceeds}
+
+-- what is open: the value that is pending, the brackets, the body of a module, how many modules have begun, and the
+-- conditions, the innermost first
+pub record State : Type 0 where
+  pub pending : Option Pending
+  pub brackets : ℕ
+  pub body : Option Ending
+  pub modules : ℕ
+  pub conditions : List Branch
 
 abbrev pub outer : Option Ending → List Want
 outer None = Modules ∷ []
@@ -34,18 +41,16 @@ abbrev pub rests : ℕ → List Want → List Want
 rests zero s = s
 rests (suc n) s = Rest ∷ rests n s
 
-abbrev pub under : Pending → List Want → List Want
-under Nothing s = s
-under First? s = First ∷ s
-under Operand? s = Operand ∷ s
-under Comparand? s = Comparand ∷ s
+abbrev pub under : Option Pending → List Want → List Want
+under None s = s
+under (Some p) s = Pending! p ∷ s
 
 -- what is pending, b open brackets, open conditions and a module's body, the innermost first
-abbrev pub wants : Pending → ℕ → List Branch → Option Ending → List Want
+abbrev pub wants : Option Pending → ℕ → List Branch → Option Ending → List Want
 wants p b bs e = under p (rests b (branches bs (outer e)))
 
-abbrev pub wants_of : State → List Branch → List Want
-wants_of s bs = wants s.pending s.brackets bs s.body
+abbrev pub wants_of : State → List Want
+wants_of s = wants s.pending s.brackets s.conditions s.body
 
 abbrev pub head_of : List Want → Want
 head_of [] = Modules
@@ -56,50 +61,28 @@ tail_from [] = []
 tail_from (w ∷ s) = s
 
 abbrev pub fresh : State
-fresh = record { pending = Nothing; brackets = 0; body = None; modules = 0 }
+fresh = record { pending = None; brackets = 0; body = None; modules = 0; conditions = [] }
 
 -- what a move does to the parts of the state
-abbrev pub pending_after : Move → Pending → Pending
-pending_after Keep p = p
-pending_after Fill p = Nothing
-pending_after Begin p = First?
-pending_after Nest p = First?
-pending_after Operate p = Operand?
-pending_after Unnest p = p
-pending_after (Enter e) p = p
-pending_after Test p = p
-pending_after Compare p = Comparand?
-pending_after Turn p = p
-pending_after Leave p = p
-pending_after Finish p = p
+abbrev pub pending_after : Move → Option Pending → Option Pending
+pending_after Fill p = None
+pending_after Begin p = Some First
+pending_after Nest p = Some First
+pending_after Operate p = Some Operand
+pending_after Compare p = Some Comparand
+pending_after m p = p
 
 abbrev pub body_after : Move → Option Ending → Option Ending
-body_after Keep o = o
-body_after Fill o = o
-body_after Begin o = o
-body_after Nest o = o
-body_after Operate o = o
-body_after Unnest o = o
 body_after (Enter e) o = Some e
-body_after Test o = o
-body_after Compare o = o
-body_after Turn o = o
-body_after Leave o = o
 body_after Finish o = None
+body_after m o = o
 
 abbrev pub branches_after : Move → List Branch → List Branch
-branches_after Keep bs = bs
-branches_after Fill bs = bs
-branches_after Begin bs = bs
-branches_after Nest bs = bs
-branches_after Operate bs = bs
-branches_after Unnest bs = bs
-branches_after (Enter e) bs = bs
 branches_after Test bs = Then ∷ bs
 branches_after Compare bs = Then ∷ bs
 branches_after Turn bs = with_newest Otherwise bs
 branches_after Leave bs = without_newest bs
-branches_after Finish bs = bs
+branches_after m bs = bs
 
 abbrev pub state_after : Move → State → State
 state_after m s = record {
@@ -107,35 +90,23 @@ state_after m s = record {
   brackets = brackets_after (role_of m) s.brackets;
   body = body_after m s.body;
   modules = modules_after (role_of m) s.modules;
+  conditions = branches_after m s.conditions;
 }
 
 -- whether a move passes no limit
-abbrev pub has_room : Move → State → List Branch → Bool
-has_room m s bs = room_for (role_of m) s.brackets (length bs) s.modules
-
-abbrev pub made_or_full : Bool → Result (Unit {0}) Full
-made_or_full b = cond b (Ok tt) (Err (record {}))
+abbrev pub has_room : Move → State → Bool
+has_room m s = room_for (role_of m) s.brackets (length s.conditions) s.modules
 
 -- what a move needs: a bracket is closed where one is open
 abbrev pub Ready : Move → ℕ → Type 0
-Ready Keep b = Unit {0}
-Ready Fill b = Unit {0}
-Ready Begin b = Unit {0}
-Ready Nest b = Unit {0}
-Ready Operate b = Unit {0}
 Ready Unnest b = 0 < b
-Ready (Enter e) b = Unit {0}
-Ready Test b = Unit {0}
-Ready Compare b = Unit {0}
-Ready Turn b = Unit {0}
-Ready Leave b = Unit {0}
-Ready Finish b = Unit {0}
+Ready m b = Unit {0}
 
--- the first i tokens begin a text within the limits, and the state and the open conditions are what they lead to
-pub record Sofar (ks : List Kind) (i : ℕ) (s : State) (bs : List Branch) : Type 0 where
-  pub ran : run start (take i ks) ≡ Some (wants_of s bs)
+-- the first i tokens begin a text within the limits, and the state is what they lead to
+pub record Sofar (ks : List Kind) (i : ℕ) (s : State) : Type 0 where
+  pub ran : run start (take i ks) ≡ Some (wants_of s)
   pub brackets : s.brackets ≡ open_brackets (take i ks)
-  pub conditions : length bs ≡ open_conditions (take i ks)
+  pub conditions : length s.conditions ≡ open_conditions (take i ks)
   pub modules : s.modules ≡ begun_modules (take i ks)
   pub clear : Clear ks i
 
@@ -146,9 +117,9 @@ pub record AtFault (F : List Kind → ℕ → Type 0) (ts : List Item) (p : Plac
   pub fault : F (kinds ts) index
   pub place : p ≡ (slice_index_or ts index blank_item).place
 
--- what comes of the tokens of a text, where bs are the conditions that are open behind them
-abbrev pub Parsed : List Item → List Branch → Result State GrammarFault → Type 0
-Parsed ts bs (Ok s) = Sofar (kinds ts) (length ts) s bs
-Parsed ts bs (Err (Reading e)) = ⊥
-Parsed ts bs (Err (Unexpected p)) = AtFault Stops ts p
-Parsed ts bs (Err (TooDeep p)) = AtFault Exceeds ts p
+-- what comes of the tokens of a text
+abbrev pub Parsed : List Item → Result State GrammarFault → Type 0
+Parsed ts (Ok s) = Sofar (kinds ts) (length ts) s
+Parsed ts (Err (Reading e)) = ⊥
+Parsed ts (Err (Unexpected p)) = AtFault Stops ts p
+Parsed ts (Err (TooDeep p)) = AtFault Exceeds ts p

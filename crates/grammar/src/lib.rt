@@ -1,26 +1,24 @@
 // The grammar of the list language: whether a text is a list of modules, and where not, the first fault.
 #![tactic(auto)]
 
-ghost use Rattle.std.specs.Prelude.{◌≡◌, ◌<◌, ◌≤◌, [], map, length, slice_index_or};
+ghost use Rattle.std.specs.Prelude.{◌≡◌, ◌≤◌, map, length};
 ghost use Rattle.scanning.specs.Text.{longest, start, walk};
-ghost use Rattle.reading.specs.Items.{item, blank_item};
-ghost use Rattle.stack.specs.Entries.{entries, room};
+ghost use Rattle.reading.specs.Items.{item};
 ghost use Rattle.grammar.specs.Parsing.{Parsed};
-ghost use Rattle.grammar.specs.Faults.{cause_of, layer_of, place_of};
+ghost use Rattle.grammar.specs.Faults.{cause_of, layer_of, place_of, causes_to_grammar};
 ghost use Rattle.grammar.specs.Grammar.{OneTree};
 ghost use Rattle.grammar.specs.Limits.{StackSuffices};
 ghost use Rattle.grammar.specs.Depth.{LimitsAgree};
 ghost use Rattle.grammar.specs.Verdict.{Verdict, OneVerdict, MemoryAfter, end_place};
 ghost use Rattle.grammar.specs.declared.GrammarFault.TheVariants.{Reading};
 
-mod state;
+mod parser;
 mod table;
 
-use crate::state::State;
-use crate::table::{Branch, Want, class_of, rule};
-use faults::{Layer, Place};
+use crate::parser::Parser;
+use crate::table::{Branch, Want, move_of};
+use faults::{Fault, Layer, Place};
 use reading::{Placed, ReadFault, read};
-use stack::Stack;
 
 // Why a text is refused: it cannot be read, a token or the text's end has no place in the grammar (cause 7), or brackets,
 // conditions or modules are too many (cause 8).
@@ -46,11 +44,18 @@ impl From<ReadFault> for GrammarFault {
     }
 }
 
-impl GrammarFault {
-    // The cause's number.
-    pub fn cause(self) -> u8
-        ensures { result ≡ cause_of self }
-    {
+impl Fault for GrammarFault {
+    type Place = Place;
+
+    ghost cause_of = { cause_of };
+
+    ghost layer_of = { layer_of };
+
+    ghost place_of = { place_of };
+
+    ghost laws = { causes_to_grammar };
+
+    fn cause(self) -> u8 {
         match self {
             GrammarFault::Reading(e) => e.cause(),
             GrammarFault::Unexpected(_) => 7,
@@ -58,98 +63,70 @@ impl GrammarFault {
         }
     }
 
-    // The layer that refuses.
-    pub fn layer(self) -> Layer
-        ensures { result ≡ layer_of self }
-    {
+    fn layer(self) -> Layer {
         match self {
             GrammarFault::Reading(e) => e.layer(),
-            GrammarFault::Unexpected(_) => Layer::Grammar,
-            GrammarFault::TooDeep(_) => Layer::Grammar,
+            GrammarFault::Unexpected(_) | GrammarFault::TooDeep(_) => Layer::Grammar,
         }
     }
 
-    // Where the fault stands.
-    pub fn place(self) -> Place
-        ensures { result ≡ place_of self }
-    {
+    fn place(self) -> Place {
         match self {
             GrammarFault::Reading(e) => e.place(),
-            GrammarFault::Unexpected(place) => place,
-            GrammarFault::TooDeep(place) => place,
+            GrammarFault::Unexpected(place) | GrammarFault::TooDeep(place) => place,
         }
     }
 }
 
-// The place behind a text's last byte.
+// The place behind a text's last byte. `scanning` goes past a byte in the same way; one public call for both could ask nothing
+// of the place, and would have to hold its numbers.
+#[tactic(auto, using(crate::proofs::Ends::walk_more))]
 fn end_of(text: &[u8]) -> Place
     requires { length text.now ≤ longest }
     ensures { result ≡ walk start text.now }
 {
-    let mut line = 1;
-    let mut column = 1;
+    let mut place = Place { line: 1, column: 1 };
     for b in text {
         if *b == b'\n' {
-            line += 1;
-            column = 1;
+            place = Place {
+                line: place.line + 1,
+                column: 1,
+            };
         } else {
-            column += 1;
+            place.column += 1;
         }
     }
-    Place { line, column }
+    place
 }
 
 // The place behind the last byte of a text that is not too long.
 pub fn place_behind(text: &[u8]) -> Option<Place>
     ensures { result ≡ end_place text.now }
 {
-    if text.len() <= 16384 {
-        Some(end_of(text))
-    } else {
-        None
+    (text.len() <= 16384).then(|| end_of(text))
+}
+
+// Goes through the tokens of a text: the parser behind the last of them, or the first fault. The slots take the open
+// conditions.
+fn parse_tokens<'m>(
+    tokens: &[Placed],
+    slots: &'m mut [Branch; 16],
+) -> Result<Parser<'m>, GrammarFault>
+    ensures { Parsed (map item tokens.now) result }
+{
+    let mut parser = Parser::new(slots);
+    for &Placed { token, place } in tokens {
+        let step = move_of(parser.due(), &token).ok_or(GrammarFault::Unexpected(place))?;
+        parser
+            .apply(step)
+            .map_err(|_| GrammarFault::TooDeep(place))?;
     }
-}
-
-// The token at `i`.
-fn placed_at<'a>(tokens: &[Placed<'a>], i: usize) -> Placed<'a>
-    requires { i < length tokens.now }
-    ensures { item result ≡ slice_index_or (map item tokens.now) i blank_item }
-{
-    tokens[i]
-}
-
-// The place of the token at `i`.
-fn place_at(tokens: &[Placed], i: usize) -> Place
-    requires { i < length tokens.now }
-    ensures { result ≡ (slice_index_or (map item tokens.now) i blank_item).place }
-{
-    placed_at(tokens, i).place
-}
-
-// Goes through the tokens of a text: the state behind the last of them, or the first fault.
-fn parse_tokens<'a>(
-    tokens: &[Placed<'a>],
-    conditions: &mut Stack<'_, Branch>,
-) -> Result<State, GrammarFault>
-    requires empty { entries conditions.old ≡ [] }
-    requires sixteen { room conditions.old ≡ 16 }
-    ensures { Parsed (map item tokens.now) (entries conditions.new) result }
-{
-    let mut state = State::new();
-    for i in 0..tokens.len() {
-        let token = placed_at(tokens, i).token;
-        let Some(step) = rule(state.top(conditions), class_of(&token)) else {
-            return Err(GrammarFault::Unexpected(place_at(tokens, i)));
-        };
-        if state.apply(conditions, step).is_err() {
-            return Err(GrammarFault::TooDeep(place_at(tokens, i)));
-        }
-    }
-    Ok(state)
+    Ok(parser)
 }
 
 // Whether a text is a list of modules within the limits, and how large it is; where not, its fault. Its tokens stand at the
-// front of `memory`, in their order, unless it cannot be read.
+// front of `memory`, in their order, unless it cannot be read. The memory is handed over, since this crate has no heap.
+#[tactic(auto, using(crate::proofs::Whole::theorems))]
 pub fn parse<'a>(text: &'a [u8], memory: &mut [Placed<'a>; 2048]) -> Result<Shape, GrammarFault>
     ensures verdict { Verdict text.now result }
     ensures one { OneVerdict text.now }
@@ -161,12 +138,11 @@ pub fn parse<'a>(text: &'a [u8], memory: &mut [Placed<'a>; 2048]) -> Result<Shap
 {
     let tokens = read(text, memory)?;
     let mut slots = [Branch::Then; 16];
-    let mut conditions = Stack::new(&mut slots);
-    let state = parse_tokens(&memory[..tokens], &mut conditions)?;
-    match state.top(&conditions) {
+    let parser = parse_tokens(&memory[..tokens], &mut slots)?;
+    match parser.due() {
         Want::Modules => Ok(Shape {
             tokens,
-            modules: state.modules,
+            modules: parser.modules(),
         }),
         _ => Err(GrammarFault::Unexpected(end_of(text))),
     }

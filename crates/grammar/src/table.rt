@@ -1,7 +1,7 @@
 // The table of the grammar: what a token does where something is due.
 ghost use Rattle.std.specs.Prelude.{◌≡◌};
 ghost use Rattle.tokens.specs.Tokens.{lexeme};
-ghost use Rattle.grammar.specs.Machine.{ending, class_of, rule_of};
+ghost use Rattle.grammar.specs.Machine.{ending, class_of, rule_of, move_of};
 
 use tokens::Token;
 
@@ -13,11 +13,9 @@ pub enum Ending {
     Level1,
 }
 
-// Tokens by their part in the grammar. A label is known by the ending of its module; `Unplaced` has no part, and no text
-// that is read has such a token.
+// Tokens by their part in the grammar. A label is known by the ending of its module.
 #[derive(Clone, Copy)]
 pub enum Class {
-    Unplaced,
     Label(Ending),
     End(Ending),
     LoadNumber,
@@ -48,18 +46,25 @@ pub enum Block {
     Branch(Branch),
 }
 
+// A value that the token before asks for: the first of a bracket, or what an operator or a comparison takes.
+#[derive(Clone, Copy)]
+pub enum Pending {
+    First,
+    Operand,
+    Comparand,
+}
+
 // What is due next.
 #[derive(Clone, Copy)]
 pub enum Want {
     Modules,
     Commands(Block),
-    First,
+    Pending(Pending),
     Rest,
-    Operand,
-    Comparand,
 }
 
-// What a token does to what is due.
+// What a token does to what is due. `Keep` is a move too, that of a command of one token; where there is no move, the token is
+// at fault.
 #[derive(Clone, Copy)]
 pub enum Move {
     Keep,
@@ -77,31 +82,34 @@ pub enum Move {
 }
 
 // How the module with this label ends.
-fn ending_of(label: u8) -> Ending
-    ensures { result ≡ ending label }
-{
-    match label {
-        1 => Ending::Level1,
-        0 => Ending::Level0,
-        _ => Ending::Return,
+impl From<u8> for Ending {
+    ghost from_gives = { λ label r. r ≡ ending label };
+
+    fn from(label: u8) -> Ending {
+        match label {
+            1 => Ending::Level1,
+            0 => Ending::Level0,
+            _ => Ending::Return,
+        }
     }
 }
 
-// Groups the tokens that the grammar does not tell apart.
-pub(crate) fn class_of(token: &Token) -> Class
+// Groups the tokens that the grammar does not tell apart. `J` with a digit other than 0 and 1 has no part, and no text that
+// is read has such a token.
+fn class_of(token: &Token) -> Option<Class>
     ensures { result ≡ class_of (lexeme token.now).kind }
 {
-    match *token {
+    let class = match *token {
         Token::Open(_) => Class::Open,
         Token::Close(_) => Class::Close,
         Token::Number(_, _) => Class::Number,
         Token::LoadNumber(_, _) => Class::LoadNumber,
         Token::LoadBit(_, _, _) => Class::LoadBit,
         Token::LoadWord(_, _, _) => Class::LoadWord,
-        Token::StoreBit(_, _, _) => Class::Action,
-        Token::StoreWord(_, _, _) => Class::Action,
-        Token::Switch(_, _, _) => Class::Action,
-        Token::Call(_, _) => Class::Action,
+        Token::StoreBit(_, _, _)
+        | Token::StoreWord(_, _, _)
+        | Token::Switch(_, _, _)
+        | Token::Call(_, _) => Class::Action,
         Token::Test(_, _, _) => Class::BitTest,
         Token::Operator(_, _) => Class::Operator,
         Token::Comparison(_, _) => Class::Comparison,
@@ -109,14 +117,22 @@ pub(crate) fn class_of(token: &Token) -> Class
         Token::EndIf(_) => Class::EndIf,
         Token::End(_, 1) => Class::End(Ending::Level1),
         Token::End(_, 0) => Class::End(Ending::Level0),
-        Token::End(_, _) => Class::Unplaced,
+        Token::End(_, _) => return None,
         Token::Return(_) => Class::End(Ending::Return),
-        Token::Label(_, label) => Class::Label(ending_of(label)),
-    }
+        Token::Label(_, label) => Class::Label(Ending::from(label)),
+    };
+    Some(class)
 }
 
-// What a token of this class does where `want` is due; nothing where no text goes on so.
-pub(crate) fn rule(want: Want, class: Class) -> Option<Move>
+// What a token does where `want` is due; nothing where no text goes on so.
+pub(crate) fn move_of(want: Want, token: &Token) -> Option<Move>
+    ensures { result ≡ move_of want (lexeme token.now).kind }
+{
+    rule(want, class_of(token)?)
+}
+
+// The same for a token of this class.
+fn rule(want: Want, class: Class) -> Option<Move>
     ensures { result ≡ rule_of want class }
 {
     match want {
@@ -125,7 +141,7 @@ pub(crate) fn rule(want: Want, class: Class) -> Option<Move>
             _ => None,
         },
         Want::Commands(block) => command_rule(block, class),
-        Want::First => match class {
+        Want::Pending(Pending::First) => match class {
             Class::LoadNumber | Class::LoadBit | Class::LoadWord => Some(Move::Fill),
             Class::Open => Some(Move::Nest),
             _ => None,
@@ -135,12 +151,12 @@ pub(crate) fn rule(want: Want, class: Class) -> Option<Move>
             Class::Close => Some(Move::Unnest),
             _ => None,
         },
-        Want::Operand => match class {
+        Want::Pending(Pending::Operand) => match class {
             Class::Number | Class::LoadBit | Class::LoadWord => Some(Move::Fill),
             Class::Open => Some(Move::Nest),
             _ => None,
         },
-        Want::Comparand => match class {
+        Want::Pending(Pending::Comparand) => match class {
             Class::Number | Class::LoadWord => Some(Move::Fill),
             _ => None,
         },

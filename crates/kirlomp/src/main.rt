@@ -2,13 +2,12 @@
 #![tactic(auto)]
 
 mod check;
-mod excerpt;
-mod lines;
-mod message;
 
-use check::check_files;
+use check::check_list;
+use reporting::files::{LONGEST_LIST, each_file};
 use std::alloc::{AllocError, Global};
 use std::process::ExitCode;
+use std::rt::Runtime;
 use std::{env, io};
 
 const USAGE: &str = "usage: kirlomp check FILE..
@@ -26,54 +25,54 @@ enum Command {
     Check(Vec<String>),
     Help,
     Unknown(String),
-    Nothing,
 }
 
-fn files_of(heap: Global, args: env::Args) -> Result<Vec<String>, AllocError> {
-    args.collect(heap)
-}
-
-fn command_of(heap: Global, mut args: env::Args) -> Result<Command, AllocError> {
+// The command, if one is given.
+fn command_of(heap: Global, mut args: env::Args) -> Result<Option<Command>, AllocError> {
     let _program = args.next();
     let Some(name) = args.next() else {
-        return Ok(Command::Nothing);
+        return Ok(None);
     };
-    match name.as_str() {
-        "check" => Ok(Command::Check(files_of(heap, args)?)),
-        "help" | "--help" | "-h" => Ok(Command::Help),
-        _ => Ok(Command::Unknown(name)),
-    }
+    let command = match name.as_str() {
+        "check" => Command::Check(args.collect(heap)?),
+        "help" | "--help" | "-h" => Command::Help,
+        _ => Command::Unknown(name),
+    };
+    Ok(Some(command))
 }
 
-// The exit status. All has been printed.
-fn ended(all_well: bool) -> ExitCode {
-    if all_well {
-        ExitCode::SUCCESS
-    } else {
-        ExitCode::FAILURE
-    }
-}
-
-fn run(rt: &HostRuntime, command: Command) -> Result<bool, io::Error> {
+// Whether all was well. What was not has been printed.
+fn run(rt: &impl Runtime, command: Option<Command>) -> io::Result<bool> {
     match command {
-        Command::Check(files) => check_files(rt, &files),
-        Command::Help => {
+        Some(Command::Check(files)) => each_file(
+            rt,
+            "check",
+            &files,
+            LONGEST_LIST,
+            |list| check_list(rt, list),
+        ),
+        Some(Command::Help) => {
             println!(rt; "{USAGE}")?;
             Ok(true)
         }
-        Command::Unknown(name) => {
+        Some(Command::Unknown(name)) => {
             eprintln!(rt; "kirlomp: there is no command '{name}'\n{USAGE}")?;
             Ok(false)
         }
-        Command::Nothing => {
+        None => {
             eprintln!(rt; "kirlomp: no command is given\n{USAGE}")?;
             Ok(false)
         }
     }
 }
 
+// The programs' `main` are alike but for their commands; shared, it would take two closures and be longer.
 fn main(rt: HostRuntime) -> anyhow::Result<ExitCode> {
     let args = env::args(&rt)?;
     let command = command_of(rt.alloc(), args)?;
-    Ok(ended(run(&rt, command)?))
+    Ok(if run(&rt, command)? {
+        ExitCode::SUCCESS
+    } else {
+        ExitCode::FAILURE
+    })
 }

@@ -1,21 +1,21 @@
-// The command line: checks lists and tapes and says of each that it is accepted, or what is refused, why and where; shows lists step by
-// step; makes tapes.
+// The command line: checks lists and tapes and says of each that it is accepted, or what is refused, why and where; shows
+// lists step by step; makes tapes.
 #![tactic(auto)]
 
 mod check;
 mod commands;
-mod excerpt;
-mod lines;
-mod message;
 mod passes;
 mod tapes;
+mod words;
 
-use check::check_files;
-use passes::show_files;
+use check::check_list;
+use passes::show_list;
+use reporting::files::{LONGEST_LIST, each_file};
 use std::alloc::{AllocError, Global};
 use std::process::ExitCode;
+use std::rt::Runtime;
 use std::{env, io};
-use tapes::{check_tapes, make_tape};
+use tapes::{LONGEST_TAPE, check_tape, make_tape};
 
 const USAGE: &str = "usage: kirlomp check FILE..
        kirlomp steps FILE..
@@ -46,75 +46,83 @@ enum Command {
     MakeTape(Option<String>),
     Help,
     Unknown(String),
-    Nothing,
-}
-
-fn files_of(heap: Global, args: env::Args) -> Result<Vec<String>, AllocError> {
-    args.collect(heap)
 }
 
 // The files of `tape`, or the one that a tape is made from.
-fn tape_command(heap: Global, mut args: env::Args) -> Result<Command, AllocError> {
-    let Some(first) = args.next() else {
-        return Ok(Command::Tape(Vec::new(heap)));
-    };
-    if first.as_str() == "--make" {
-        return Ok(Command::MakeTape(args.next()));
-    }
-    let mut files = Vec::new(heap);
-    files.push(first)?;
-    for file in args {
-        files.push(file)?;
+fn tape_command(heap: Global, args: env::Args) -> Result<Command, AllocError> {
+    let files: Vec<String> = args.collect(heap)?;
+    if files
+        .first()
+        .is_some_and(|first| first.as_str() == "--make")
+    {
+        return Ok(Command::MakeTape(files.into_iter().nth(1)));
     }
     Ok(Command::Tape(files))
 }
 
-fn command_of(heap: Global, mut args: env::Args) -> Result<Command, AllocError> {
+// The command, if one is given.
+fn command_of(heap: Global, mut args: env::Args) -> Result<Option<Command>, AllocError> {
     let _program = args.next();
     let Some(name) = args.next() else {
-        return Ok(Command::Nothing);
+        return Ok(None);
     };
-    match name.as_str() {
-        "check" => Ok(Command::Check(files_of(heap, args)?)),
-        "steps" => Ok(Command::Steps(files_of(heap, args)?)),
-        "tape" => tape_command(heap, args),
-        "help" | "--help" | "-h" => Ok(Command::Help),
-        _ => Ok(Command::Unknown(name)),
-    }
+    let command = match name.as_str() {
+        "check" => Command::Check(args.collect(heap)?),
+        "steps" => Command::Steps(args.collect(heap)?),
+        "tape" => tape_command(heap, args)?,
+        "help" | "--help" | "-h" => Command::Help,
+        _ => Command::Unknown(name),
+    };
+    Ok(Some(command))
 }
 
-// The exit status. All has been printed.
-fn ended(all_well: bool) -> ExitCode {
-    if all_well {
-        ExitCode::SUCCESS
-    } else {
-        ExitCode::FAILURE
-    }
-}
-
-fn run(rt: &HostRuntime, command: Command) -> Result<bool, io::Error> {
+// Whether all was well. What was not has been printed.
+fn run(rt: &(impl Runtime + AllocGlobal), command: Option<Command>) -> io::Result<bool> {
     match command {
-        Command::Check(files) => check_files(rt, &files),
-        Command::Steps(files) => show_files(rt, &files),
-        Command::Tape(files) => check_tapes(rt, &files),
-        Command::MakeTape(file) => make_tape(rt, file),
-        Command::Help => {
+        Some(Command::Check(files)) => each_file(
+            rt,
+            "check",
+            &files,
+            LONGEST_LIST,
+            |list| check_list(rt, list),
+        ),
+        Some(Command::Steps(files)) => each_file(
+            rt,
+            "steps",
+            &files,
+            LONGEST_LIST,
+            |list| show_list(rt, list),
+        ),
+        Some(Command::Tape(files)) => each_file(
+            rt,
+            "tape",
+            &files,
+            LONGEST_TAPE,
+            |tape| check_tape(rt, tape),
+        ),
+        Some(Command::MakeTape(file)) => make_tape(rt, file),
+        Some(Command::Help) => {
             println!(rt; "{USAGE}")?;
             Ok(true)
         }
-        Command::Unknown(name) => {
+        Some(Command::Unknown(name)) => {
             eprintln!(rt; "kirlomp: there is no command '{name}'\n{USAGE}")?;
             Ok(false)
         }
-        Command::Nothing => {
+        None => {
             eprintln!(rt; "kirlomp: no command is given\n{USAGE}")?;
             Ok(false)
         }
     }
 }
 
+// The programs' `main` are alike but for their commands; shared, it would take two closures and be longer.
 fn main(rt: HostRuntime) -> anyhow::Result<ExitCode> {
     let args = env::args(&rt)?;
     let command = command_of(rt.alloc(), args)?;
-    Ok(ended(run(&rt, command)?))
+    Ok(if run(&rt, command)? {
+        ExitCode::SUCCESS
+    } else {
+        ExitCode::FAILURE
+    })
 }

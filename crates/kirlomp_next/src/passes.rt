@@ -1,166 +1,154 @@
 // Shows passes of a list step by step.
-use crate::check::{report, text_of};
-use crate::commands::{Written, bit_name, commands_of, word_name};
-use grammar::parse;
-use linking::{Compiled, compile};
+ghost use Rattle.std.specs.Prelude.{◌≡◌, length};
+
+use crate::commands::{Written, commands_of};
+use crate::words::LinkWords;
+use grammar::{Shape, parse};
+use linking::{Compiled, LinkFault, compile};
 use program::instruction::{Entry, Instruction};
 use program::{Cpu, Program, Sight};
 use reading::Placed;
+use reporting::files::Source;
+use reporting::refusal::report;
 use stack::Stack;
-use std::alloc::{AllocError, Global};
-use std::io;
+use std::{fmt, io};
 use tokens::{Area, BitCell, WordCell};
 
 // The most steps that a pass of an accepted list takes.
 const MOST: u32 = 60000;
 
-// Where a byte of Y or F lies among the 144.
-fn index_of(area: Area, byte: u8) -> u8 {
-    match area {
-        Area::Output => 128 + byte % 16,
-        _ => byte % 128,
-    }
+// A byte of Y or F; those of F stand first among the 144.
+fn byte_of(cpu: &Cpu, area: Area, byte: u8) -> u8 {
+    let index = match area {
+        Area::Output => 128u8.saturating_add(byte),
+        _ => byte,
+    };
+    cpu.byte(index).unwrap_or(0)
 }
 
-fn byte_of(cpu: &Cpu, area: Area, byte: u8) -> u16 {
-    match cpu.byte(index_of(area, byte)) {
-        Some(value) => u16::from(value),
-        None => 0,
-    }
-}
-
-// What a bit cell holds.
-fn bit_value(cpu: &Cpu, cell: BitCell) -> u16 {
+// What a bit cell holds. The remainder changes no bit of a list: by it the shift fits.
+fn bit_value(cpu: &Cpu, cell: BitCell) -> u8 {
     (byte_of(cpu, cell.area, cell.byte) >> (cell.bit % 8)) % 2
 }
 
 // What a word cell holds.
 fn word_value(cpu: &Cpu, cell: WordCell) -> u16 {
     match cell {
-        WordCell::Timer(timer) => match cpu.timer(timer) {
-            Some(value) => value,
-            None => 0,
-        },
-        WordCell::Pair(area, byte) => {
-            let low = byte_of(cpu, area, byte % 128);
-            let high = byte_of(cpu, area, byte % 128 + 1);
-            low % 256 + high % 256 * 256
+        WordCell::Timer(timer) => cpu.timer(timer).unwrap_or(0),
+        WordCell::Pair(area, low) => {
+            let high = low.saturating_add(1);
+            u16::from_le_bytes([byte_of(cpu, area, low), byte_of(cpu, area, high)])
         }
     }
 }
 
-// What an instruction that was just made has stored.
-fn stored(heap: Global, cpu: &Cpu, instruction: Instruction) -> Result<String, AllocError> {
-    match instruction {
-        Instruction::StoreBit(cell, _) | Instruction::Switch(cell, _) => {
-            let name = bit_name(heap, cell)?;
-            let value = bit_value(cpu, cell);
-            format!(in heap; "  {name} = {value}")
+// What an instruction that was just made has stored; nothing where it is no store.
+#[derive(Drop)]
+struct Stored<'a> {
+    cpu: &'a Cpu,
+    instruction: Instruction,
+}
+
+impl<'a> fmt::Display for Stored<'a> {
+    fn fmt<W: fmt::Write>(&self, f: &mut fmt::Formatter<W>) -> fmt::Result {
+        match self.instruction {
+            Instruction::StoreBit(cell, _) | Instruction::Switch(cell, _) => {
+                write!(f, "  {cell} = {}", bit_value(self.cpu, cell))
+            }
+            Instruction::StoreWord(cell, _) => {
+                write!(f, "  {cell} = {}", word_value(self.cpu, cell))
+            }
+            _ => Ok(()),
         }
-        Instruction::StoreWord(cell, _) => {
-            let name = word_name(heap, cell)?;
-            let value = word_value(cpu, cell);
-            format!(in heap; "  {name} = {value}")
-        }
-        _ => Ok(String::new(heap)),
     }
 }
 
+// A step that was just made, with its command where there is one.
 fn show_step(
-    rt: &HostRuntime,
-    commands: &Vec<Written>,
+    rt: &impl Print,
     step: u32,
-    at: usize,
+    command: Option<&Written>,
     cpu: &Cpu,
     instruction: Instruction,
 ) -> io::Result<()> {
     let op = cpu.op();
-    let stored = stored(rt.alloc(), cpu, instruction)?;
-    if at >= commands.len() {
-        return println!(rt; "{step:>6}  OP {op:>5}{stored}");
+    let stored = Stored { cpu, instruction };
+    match command {
+        Some(Written { words, place }) => {
+            println!(rt;
+                "{step:>6}  {:>4}:{:<3}  {words:<14}  OP {op:>5}{stored}",
+                place.line, place.column
+            )
+        }
+        None => println!(rt; "{step:>6}  OP {op:>5}{stored}"),
     }
-    let line = commands[at].place.line;
-    let column = commands[at].place.column;
-    let words = commands[at].words.as_str();
-    println!(rt; "{step:>6}  {line:>4}:{column:<3}  {words:<14}  OP {op:>5}{stored}")
 }
 
 // A pass from a place of the program, with all cells 0.
 fn show_pass(
-    rt: &HostRuntime,
+    rt: &impl Print,
     program: &Program,
-    commands: &Vec<Written>,
+    commands: &[Written],
     place: u16,
 ) -> io::Result<()> {
-    let sight = Sight {
-        inputs: [0; 8],
-        previous: [0; 8],
-    };
+    let sight = Sight::default();
     let mut slots = [Entry::Back(0); 16];
     let mut stack = Stack::new(&mut slots);
     let mut cpu = Cpu::new([0; 144], [0; 20], place);
-    for step in 1..MOST + 1 {
+    for step in 1..=MOST {
         if cpu.is_over() {
             break;
         }
         let at = cpu.place();
         let instruction = program.fetch(at);
         cpu.step(program, &sight, &mut stack);
-        show_step(rt, commands, step, at as usize, &cpu, instruction)?;
+        show_step(rt, step, commands.get(at as usize), &cpu, instruction)?;
     }
     Ok(())
 }
 
-fn show_list(rt: &HostRuntime, file: &str, text: &[u8], compiled: &Compiled) -> io::Result<bool> {
-    let mut memory = [Placed::blank(); 2048];
-    let Ok(shape) = parse(text, &mut memory) else {
-        return Ok(false);
-    };
-    let count = shape.tokens.min(2048);
-    let commands = commands_of(rt.alloc(), &memory[0..count])?;
+// Both passes of an accepted list, of which the tokens are given too.
+fn show_passes(
+    rt: &(impl Print + AllocGlobal),
+    name: &str,
+    tokens: &[Placed],
+    compiled: &Compiled,
+) -> io::Result<()> {
+    let commands = commands_of(rt.alloc(), tokens)?;
     let program = compiled.program();
     let figures = compiled.figures();
-    let quick = figures.quick;
-    let slow = figures.slow;
-    println!(rt; "{file}: a pass of :001, at most {quick} steps")?;
+    println!(rt; "{name}: a pass of :001, at most {} steps", figures.quick)?;
     show_pass(rt, program, &commands, program.quick())?;
-    println!(rt; "{file}: a pass of :000, at most {slow} steps")?;
-    show_pass(rt, program, &commands, program.slow())?;
-    Ok(true)
+    println!(rt; "{name}: a pass of :000, at most {} steps", figures.slow)?;
+    show_pass(rt, program, &commands, program.slow())
 }
 
-fn show_text(rt: &HostRuntime, file: &str, text: &[u8]) -> io::Result<bool> {
+// Compiles a list, and keeps its tokens too.
+fn compile_with_tokens<'a>(
+    text: &'a [u8],
+    compiled: &mut Compiled,
+    memory: &mut [Placed<'a>; 2048],
+) -> Result<Shape, LinkFault>
+    ensures size { length memory.new ≡ 2048 }
+{
+    compile(text, compiled)?;
+    Ok(parse(text, memory)?)
+}
+
+// Shows a list's passes; whether it is accepted.
+pub(crate) fn show_list(rt: &(impl Print + AllocGlobal), list: Source<'_>) -> io::Result<bool> {
+    let Source { name, bytes: text } = list;
     let mut compiled = Compiled::empty();
-    match compile(text, &mut compiled) {
-        Ok(_) => show_list(rt, file, text, &compiled),
+    let mut memory = [Placed::blank(); 2048];
+    match compile_with_tokens(text, &mut compiled, &mut memory) {
+        Ok(shape) => {
+            let count = shape.tokens.min(2048);
+            show_passes(rt, name, &memory[..count], &compiled)?;
+            Ok(true)
+        }
         Err(fault) => {
-            report(rt, file, text, fault)?;
+            report(rt, list, fault, &LinkWords { text, fault })?;
             Ok(false)
         }
     }
-}
-
-fn show_file(rt: &HostRuntime, file: &str) -> io::Result<bool> {
-    match text_of(rt, file) {
-        Ok(text) => show_text(rt, file, text.as_slice()),
-        Err(e) => {
-            eprintln!(rt; "{file}: cannot be read: {e}")?;
-            Ok(false)
-        }
-    }
-}
-
-// Shows every file; whether all were accepted.
-pub(crate) fn show_files(rt: &HostRuntime, files: &Vec<String>) -> io::Result<bool> {
-    if files.is_empty() {
-        eprintln!(rt; "kirlomp steps: no file is given")?;
-        return Ok(false);
-    }
-    let mut all = true;
-    for file in files {
-        if !show_file(rt, file.as_str())? {
-            all = false;
-        }
-    }
-    Ok(all)
 }

@@ -1,5 +1,5 @@
 -- What the parts of compiling make together. Assumes nothing.
-use Rattle.std.proofs.Common.{◌≡◌, ℕ, ◌-◌, ◌<◌, ◌≤◌, true, ltb, leb, List, [], ◌∷◌, map, length, take, Ok, Err, sym, refl, ap, ◌∙◌, subst, arith, lt-ltb, le-leb}
+use Rattle.std.proofs.Common.{◌≡◌, ℕ, ◌<◌, ◌≤◌, true, ltb, leb, List, [], ◌∷◌, map, length, take, Ok, Err, sym, refl, ap, ◌∙◌, subst, arith, lt-ltb, le-leb}
 use Rattle.std.proofs.lemmas.List.{length-map}
 use Rattle.std.proofs.lemmas.Bool.{and_from}
 use Rattle.scanning.specs.Text.{longest}
@@ -85,9 +85,9 @@ module _ (text : List ℕ) (ts : List Item) (ms : List Module) (w : Written text
       })
 
 -- ---- from what the grammar answers
-pub parsed_list : (text : List ℕ) (new old : List Placed) (s : _) → Parsed text s → MemoryAfter text new old → ListText text (map item (take (s.tokens - 0) new))
+pub parsed_list : (text : List ℕ) (new old : List Placed) (s : _) → Parsed text s → MemoryAfter text new old → ListText text (map item (take s.tokens new))
 parsed_list text new old s h m =
     let front = (m (Ok h.tokens) h.read).0 in
-    let n : length h.tokens ≡ s.tokens - 0 = omega (arith, h.token_count) in
-    let e : h.tokens ≡ map item (take (s.tokens - 0) new) = sym front ∙ ap (λ k. map item (take k new)) n in
+    let n : length h.tokens ≡ s.tokens = omega (arith, h.token_count) in
+    let e : h.tokens ≡ map item (take s.tokens new) = sym front ∙ ap (λ k. map item (take k new)) n in
     (h.modules, subst (λ (ts : List Item). Written text ts h.modules) e (record { read = h.read; spelled = h.spelled; within = h.within }))

@@ -36,9 +36,6 @@ Says Rs (Some b) = FirstBroken Rs b.rule b.index
 some_is : {A : Type 0} (a b : A) → Some a ≡ Some b → a ≡ b
 some_is a b e = cc
 
-not_some : {A : Type 0} (a : A) → None ≡ Some a → ⊥
-not_some a e = let z : ◌≡◌ {A = ℕ} 0 1 = cc in omega arith
-
 one_rule : (P : ℕ → Type 0) (i j : ℕ) → First P i → First P j → i ≡ j
 one_rule P i j p q = some_is i j (one_finding P (Some i) (Some j) p q)
 

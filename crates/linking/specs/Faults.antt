@@ -1,9 +1,10 @@
 -- Number, layer and place of each fault. Assumes nothing.
-use Rattle.std.specs.Prelude.{ℕ, zero, suc}
+use Rattle.std.specs.Prelude.{ℕ, zero, suc, refl}
 use Rattle.faults.specs.declared.Layer.{Layer}
 use Rattle.faults.specs.declared.Layer.TheVariants.{Linking}
+use Rattle.faults.specs.Layers.{CauseOfItsLayer}
 use Rattle.faults.specs.declared.Place.{Place}
-use Rattle.grammar.specs.Faults.{cause_of as grammar_cause, layer_of as grammar_layer, place_of as grammar_place}
+use Rattle.grammar.specs.Faults.{cause_of as grammar_cause, layer_of as grammar_layer, place_of as grammar_place, causes_to_grammar}
 use Rattle.linking.specs.declared.LinkFault.{LinkFault}
 use Rattle.linking.specs.declared.LinkFault.TheVariants.{Grammar, Repeated, Unlinked, Misplaced, Clashing, Overweight}
 
@@ -30,6 +31,15 @@ place_of (Unlinked p) = p
 place_of (Misplaced p) = p
 place_of (Clashing p) = p
 place_of (Overweight p) = p
+
+-- the causes are those of the layers up to linking
+pub causes_to_linking : CauseOfItsLayer cause_of layer_of
+causes_to_linking (Grammar e) = causes_to_grammar e
+causes_to_linking (Repeated p) = refl
+causes_to_linking (Unlinked p) = refl
+causes_to_linking (Misplaced p) = refl
+causes_to_linking (Clashing p) = refl
+causes_to_linking (Overweight p) = refl
 
 -- the fault of rule n, counted from 0, at a place
 abbrev pub fault_of : ℕ → Place → LinkFault

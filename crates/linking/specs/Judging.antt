@@ -11,11 +11,14 @@ use Rattle.emission.specs.Emission.{emitted, place_in}
 use Rattle.meaning.specs.Figure.{figure}
 use Rattle.rules.specs.Findings.{First}
 use Rattle.rules.specs.Labels.{IsLabel}
+use Rattle.weights.specs.declared.weight.Weight.{Weight}
+use Rattle.weights.specs.Claims.{WeightOf}
 use Rattle.linking.specs.declared.LinkFault.{LinkFault}
+use Rattle.linking.specs.declared.LinkFault.TheVariants.{Overweight as TooGreat}
 use Rattle.linking.specs.declared.figures.Figures.{Figures}
 use Rattle.linking.specs.Faults.{fault_of}
 use Rattle.linking.specs.Order.{NoneBroken, FirstBroken}
-use Rattle.linking.specs.declared.judging.Linked.{Linked}
+use Rattle.linking.specs.declared.compiled.Compiled.{Compiled}
 use Rattle.linking.specs.Rules.{Heavy, Overweight, token_rules}
 use Rattle.linking.specs.Verdict.{Written, Accepted, Verdict}
 use Rattle.linking.specs.Records.{RecordOf}
@@ -50,6 +53,11 @@ pub record FaultIn (R : ℕ → Type 0) (text : List ℕ) (ts : List Item) (e : 
   pub broken : First R index
   pub fault : e ≡ fault_of 4 (place_at text ts index)
 
+-- the figure of level n by the weight of its module, which is not too great, or cause 13 at its label
+abbrev pub LevelWeighed : List ℕ → List Item → ℕ → Weight → Result ℕ LinkFault → Type 0
+LevelWeighed text ts n w (Ok f) = ((ms : List Module) (l : ℕ) → WeightOf ms l w → Heavy ms l → ⊥) × f ≡ w.figure
+LevelWeighed text ts n w (Err e) = ((ms : List Module) (l : ℕ) → WeightOf ms l w → Heavy ms l) × ((p : Place) × LabelPlace text ts n p × e ≡ TooGreat p)
+
 abbrev pub Weighed : List ℕ → List Item → List Module → Result Figures LinkFault → Type 0
 Weighed text ts ms (Ok f) = Light ms f
 Weighed text ts ms (Err e) = FaultIn (Overweight (kinds ts) ms) text ts e
@@ -71,6 +79,6 @@ pub record LinkedAs (text : List ℕ) (p : Program) (f : Figures) : Type 0 where
   pub accepted : Accepted text modules f
   pub recorded : RecordOf modules p f
 
-abbrev pub Links : List ℕ → Result Linked LinkFault → Type 0
-Links text (Ok l) = LinkedAs text l.program l.figures
+abbrev pub Links : List ℕ → Result Compiled LinkFault → Type 0
+Links text (Ok c) = LinkedAs text c.program c.figures
 Links text (Err e) = Verdict text (Err e)

@@ -10,7 +10,7 @@ pub use methods::compile;
 // The record of a list that is accepted: its program and its figures. There is no other.
 #[derive(Drop)]
 pub struct Compiled {
-    program: Program,
-    figures: Figures,
+    pub(crate) program: Program,
+    pub(crate) figures: Figures,
     ghost compiled: { ∥ OfSomeText program figures ∥₁ },
 }

@@ -2,15 +2,16 @@
 #![tactic(auto)]
 
 ghost use Rattle.std.specs.Prelude.{◌≡◌};
-ghost use Rattle.linking.specs.Faults.{cause_of, layer_of, place_of};
+ghost use Rattle.linking.specs.Faults.{cause_of, layer_of, place_of, causes_to_linking};
 ghost use Rattle.linking.specs.declared.LinkFault.TheVariants.{Grammar};
 
 pub mod compiled;
 pub mod figures;
 mod judging;
+mod parsed;
 
 pub use compiled::{Compiled, compile};
-use faults::{Layer, Place};
+use faults::{Fault, Layer, Place};
 pub use figures::Figures;
 use grammar::GrammarFault;
 
@@ -33,11 +34,18 @@ impl From<GrammarFault> for LinkFault {
     }
 }
 
-impl LinkFault {
-    // The cause's number.
-    pub fn cause(self) -> u8
-        ensures { result ≡ cause_of self }
-    {
+impl Fault for LinkFault {
+    type Place = Place;
+
+    ghost cause_of = { cause_of };
+
+    ghost layer_of = { layer_of };
+
+    ghost place_of = { place_of };
+
+    ghost laws = { causes_to_linking };
+
+    fn cause(self) -> u8 {
         match self {
             LinkFault::Grammar(e) => e.cause(),
             LinkFault::Repeated(_) => 9,
@@ -48,20 +56,14 @@ impl LinkFault {
         }
     }
 
-    // The layer that refuses.
-    pub fn layer(self) -> Layer
-        ensures { result ≡ layer_of self }
-    {
+    fn layer(self) -> Layer {
         match self {
             LinkFault::Grammar(e) => e.layer(),
             _ => Layer::Linking,
         }
     }
 
-    // Where the fault stands.
-    pub fn place(self) -> Place
-        ensures { result ≡ place_of self }
-    {
+    fn place(self) -> Place {
         match self {
             LinkFault::Grammar(e) => e.place(),
             LinkFault::Repeated(place)

@@ -110,6 +110,17 @@ const LISTS: [(
     ),
 ];
 
+// The tokens of a text that can be read.
+fn tokens_of<'m, 'a>(
+    text: &'a [u8],
+    memory: &'m mut [Placed<'a>; 2048],
+) -> Result<&'m [Placed<'a>], Fail> {
+    let count = read(text, memory)?;
+    memory
+        .get(..count)
+        .ok_or_else(|| Fail::new("more tokens than memory"))
+}
+
 fn finds(
     rt: &impl Abort,
     row: usize,
@@ -120,13 +131,7 @@ fn finds(
     shared: Option<usize>,
 ) -> Result<(), Fail> {
     let mut memory = [Placed::blank(); 2048];
-    let Ok(n) = read(text, &mut memory) else {
-        return Err(Fail::new(format_args!("row {row}: not read")));
-    };
-    if n > 2048 {
-        return Err(Fail::new(format_args!("row {row}: too many")));
-    }
-    let tokens = &memory[..n];
+    let tokens = tokens_of(text, &mut memory)?;
     assert_eq!(rt; repeated_label(tokens), repeated, "row {row}");
     assert_eq!(rt; unlinked(tokens), astray, "row {row}");
     assert_eq!(rt; misplaced(tokens), early, "row {row}");
@@ -146,17 +151,12 @@ fn lists_with_their_faults(rt: HostRuntime) -> Result<(), Fail> {
 fn modules_that_are_reached(rt: HostRuntime) -> Result<(), Fail> {
     let mut memory = [Placed::blank(); 2048];
     let text = b":005 R :004 G005 R :001 G003 J1 :000 G004 J0 :003 R";
-    let Ok(n) = read(text, &mut memory) else {
-        return Err(Fail::new("not read"));
-    };
-    if n > 2048 {
-        return Err(Fail::new("too many"));
-    }
-    let slow = reached(&memory[..n], 0);
-    let quick = reached(&memory[..n], 1);
-    for module in 0..256 {
-        assert_eq!(rt; slow[module], module == 0 || module == 4 || module == 5);
-        assert_eq!(rt; quick[module], module == 1 || module == 3);
+    let tokens = tokens_of(text, &mut memory)?;
+    let slow = reached(tokens, 0);
+    let quick = reached(tokens, 1);
+    for (module, (slow, quick)) in slow.iter().zip(&quick).enumerate() {
+        assert_eq!(rt; *slow, module == 0 || module == 4 || module == 5);
+        assert_eq!(rt; *quick, module == 1 || module == 3);
     }
     Ok(())
 }

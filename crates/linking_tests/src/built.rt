@@ -3,17 +3,13 @@ use crate::verdict::{accepts, refuses};
 use std::process::Abort;
 use std::test::Fail;
 
-// Figures, or cause, line and column.
-#[derive(Clone, Copy)]
-enum Verdict {
-    Accepted(u16, u16),
-    Refused(u8, u32, u32),
-}
+// Figures, or cause, line and column. Tuples and not `Figures` and `Place`: field names would make each row several lines long.
+type Verdict = Result<(u16, u16), (u8, u32, u32)>;
 
 fn has(rt: &impl Abort, row: usize, text: &[u8], verdict: Verdict) -> Result<(), Fail> {
     match verdict {
-        Verdict::Accepted(quick, slow) => accepts(rt, row, text, quick, slow),
-        Verdict::Refused(cause, line, column) => refuses(rt, row, text, cause, line, column),
+        Ok((quick, slow)) => accepts(rt, row, text, quick, slow),
+        Err((cause, line, column)) => refuses(rt, row, text, cause, line, column),
     }
 }
 
@@ -24,7 +20,7 @@ fn repeat(text: &mut Vec<u8>, part: &[u8], times: usize) -> Result<(), Fail> {
     Ok(())
 }
 
-// `:` or `G`, the three digits of a module, and a blank.
+// `:` or `G`, the three digits of a module, and a blank: bytes and no `write!`, since `repeat` takes bytes.
 fn named(sign: u8, module: u8) -> [u8; 5] {
     [
         sign,
@@ -79,36 +75,24 @@ const LESS: Level = Level {
 
 // :001 and its commands behind the calls and loads, :000, and whether :000 stands first.
 const GREAT: [(Level, &[u8], Level, bool, Verdict); 18] = [
-    (FULL, b"", REST, false, Verdict::Accepted(60000, 1)),
-    (LESS, b"", REST, false, Verdict::Accepted(60000, 1)),
-    (OVER, b"", REST, false, Verdict::Refused(13, 1, 1)),
-    (CALLS_OVER, b"", REST, false, Verdict::Refused(13, 1, 1)),
-    (LOADS_OVER, b"", REST, false, Verdict::Refused(13, 1, 1)),
-    (OVER, b"", REST, true, Verdict::Refused(13, 1, 9)),
-    (REST, b"", FULL, false, Verdict::Accepted(1, 60000)),
-    (REST, b"", FULL, true, Verdict::Accepted(1, 60000)),
-    (REST, b"", OVER, false, Verdict::Refused(13, 1, 9)),
-    (REST, b"", CALLS_OVER, true, Verdict::Refused(13, 1, 1)),
-    (FULL, b"", FULL, false, Verdict::Accepted(60000, 60000)),
-    (LESS, b"", FULL, true, Verdict::Accepted(60000, 60000)),
-    (FULL, b"", OVER, true, Verdict::Refused(13, 1, 1)),
-    (
-        CALLS_OVER,
-        b"",
-        CALLS_OVER,
-        false,
-        Verdict::Refused(13, 1, 1),
-    ),
-    (
-        CALLS_OVER,
-        b"",
-        CALLS_OVER,
-        true,
-        Verdict::Refused(13, 1, 3009),
-    ),
-    (CALLS_OVER, b"", FULL, true, Verdict::Refused(13, 1, 3301)),
-    (LESS, b"I000 Z ", REST, false, Verdict::Refused(13, 1, 1)),
-    (FULL, b"/* L0 */ ", REST, false, Verdict::Accepted(60000, 1)),
+    (FULL, b"", REST, false, Ok((60000, 1))),
+    (LESS, b"", REST, false, Ok((60000, 1))),
+    (OVER, b"", REST, false, Err((13, 1, 1))),
+    (CALLS_OVER, b"", REST, false, Err((13, 1, 1))),
+    (LOADS_OVER, b"", REST, false, Err((13, 1, 1))),
+    (OVER, b"", REST, true, Err((13, 1, 9))),
+    (REST, b"", FULL, false, Ok((1, 60000))),
+    (REST, b"", FULL, true, Ok((1, 60000))),
+    (REST, b"", OVER, false, Err((13, 1, 9))),
+    (REST, b"", CALLS_OVER, true, Err((13, 1, 1))),
+    (FULL, b"", FULL, false, Ok((60000, 60000))),
+    (LESS, b"", FULL, true, Ok((60000, 60000))),
+    (FULL, b"", OVER, true, Err((13, 1, 1))),
+    (CALLS_OVER, b"", CALLS_OVER, false, Err((13, 1, 1))),
+    (CALLS_OVER, b"", CALLS_OVER, true, Err((13, 1, 3009))),
+    (CALLS_OVER, b"", FULL, true, Err((13, 1, 3301))),
+    (LESS, b"I000 Z ", REST, false, Err((13, 1, 1))),
+    (FULL, b"/* L0 */ ", REST, false, Ok((60000, 1))),
 ];
 
 #[test]
@@ -133,13 +117,13 @@ fn great_figures(rt: HostRuntime) -> Result<(), Fail> {
 
 // What stands before :003, behind 599 calls of 100 steps and 97 loads in :001: 59,998 steps with the end.
 const TAILS: [(&[u8], Verdict); 7] = [
-    (b"L1 L2", Verdict::Accepted(60000, 1)),
-    (b"L1 L2 L3", Verdict::Refused(13, 1, 1)),
-    (b"I000 L1 Z", Verdict::Accepted(60000, 1)),
-    (b"I000 L1 E Z", Verdict::Refused(13, 1, 1)),
-    (b"I000 E L1 Z", Verdict::Accepted(60000, 1)),
-    (b"I000 E L1 L2 Z", Verdict::Refused(13, 1, 1)),
-    (b"[ L1 ]", Verdict::Refused(13, 1, 1)),
+    (b"L1 L2", Ok((60000, 1))),
+    (b"L1 L2 L3", Err((13, 1, 1))),
+    (b"I000 L1 Z", Ok((60000, 1))),
+    (b"I000 L1 E Z", Err((13, 1, 1))),
+    (b"I000 E L1 Z", Ok((60000, 1))),
+    (b"I000 E L1 L2 Z", Err((13, 1, 1))),
+    (b"[ L1 ]", Err((13, 1, 1))),
 ];
 
 #[test]
@@ -161,35 +145,20 @@ fn figures_that_a_branch_makes_too_great(rt: HostRuntime) -> Result<(), Fail> {
 
 // The two levels, how many modules there are below, how often each calls the next one, and the verdict.
 const POWERS: [(&[u8], u8, usize, Verdict); 14] = [
-    (b":001 G003 J1 :000 J0 ", 8, 1, Verdict::Accepted(17, 1)),
-    (b":001 G003 J1 :000 J0 ", 9, 1, Verdict::Refused(13, 1, 1)),
-    (b":001 G003 J1 :000 J0 ", 8, 3, Verdict::Accepted(6561, 1)),
-    (b":001 G003 J1 :000 J0 ", 8, 4, Verdict::Accepted(43691, 1)),
-    (b":001 J1 :000 G003 J0 ", 8, 4, Verdict::Accepted(1, 43691)),
-    (
-        b":001 G003 J1 :000 G004 J0 ",
-        8,
-        4,
-        Verdict::Accepted(43691, 10923),
-    ),
-    (b":001 G003 J1 :000 J0 ", 7, 5, Verdict::Accepted(39063, 1)),
-    (b":001 G003 J1 :000 J0 ", 8, 5, Verdict::Refused(13, 1, 1)),
-    (b":001 J1 :000 G003 J0 ", 8, 5, Verdict::Refused(13, 1, 9)),
-    (
-        b":000 G003 J0 :001 G004 J1 ",
-        8,
-        5,
-        Verdict::Refused(13, 1, 1),
-    ),
-    (
-        b":000 G003 J0 :001 G003 J1 ",
-        8,
-        30,
-        Verdict::Refused(13, 1, 14),
-    ),
-    (b":001 G003 J1 :000 J0 ", 62, 30, Verdict::Refused(13, 1, 1)),
-    (b":001 J1 :000 G003 J0 ", 62, 30, Verdict::Refused(13, 1, 9)),
-    (b":001 J1 :000 J0 ", 62, 30, Verdict::Accepted(1, 1)),
+    (b":001 G003 J1 :000 J0 ", 8, 1, Ok((17, 1))),
+    (b":001 G003 J1 :000 J0 ", 9, 1, Err((13, 1, 1))),
+    (b":001 G003 J1 :000 J0 ", 8, 3, Ok((6561, 1))),
+    (b":001 G003 J1 :000 J0 ", 8, 4, Ok((43691, 1))),
+    (b":001 J1 :000 G003 J0 ", 8, 4, Ok((1, 43691))),
+    (b":001 G003 J1 :000 G004 J0 ", 8, 4, Ok((43691, 10923))),
+    (b":001 G003 J1 :000 J0 ", 7, 5, Ok((39063, 1))),
+    (b":001 G003 J1 :000 J0 ", 8, 5, Err((13, 1, 1))),
+    (b":001 J1 :000 G003 J0 ", 8, 5, Err((13, 1, 9))),
+    (b":000 G003 J0 :001 G004 J1 ", 8, 5, Err((13, 1, 1))),
+    (b":000 G003 J0 :001 G003 J1 ", 8, 30, Err((13, 1, 14))),
+    (b":001 G003 J1 :000 J0 ", 62, 30, Err((13, 1, 1))),
+    (b":001 J1 :000 G003 J0 ", 62, 30, Err((13, 1, 9))),
+    (b":001 J1 :000 J0 ", 62, 30, Ok((1, 1))),
 ];
 
 #[test]
@@ -213,61 +182,19 @@ fn modules_that_call_the_next(rt: HostRuntime) -> Result<(), Fail> {
 
 // What stands before, what is repeated how often, what stands behind, and the verdict.
 const LIMITS: [(&[u8], &[u8], usize, &[u8], Verdict); 8] = [
-    (
-        b":001 J1 :000 J0",
-        b" ",
-        16369,
-        b"",
-        Verdict::Accepted(1, 1),
-    ),
-    (
-        b":001 J1 :000 J0",
-        b" ",
-        16370,
-        b"",
-        Verdict::Refused(1, 0, 0),
-    ),
-    (
-        b":001 J1 :000",
-        b"\n",
-        16370,
-        b"J0",
-        Verdict::Accepted(1, 1),
-    ),
-    (
-        b":001 J1",
-        b"\n",
-        16377,
-        b"",
-        Verdict::Refused(10, 16378, 1),
-    ),
-    (
-        b":001 ",
-        b"L0 ",
-        2044,
-        b"J1 :000 J0",
-        Verdict::Accepted(2045, 1),
-    ),
-    (
-        b":001 ",
-        b"L0 ",
-        2045,
-        b"J1 :000 J0",
-        Verdict::Refused(6, 1, 6149),
-    ),
-    (
-        b":001 ",
-        b"[L0] ",
-        681,
-        b"J1 :000 J0",
-        Verdict::Accepted(2044, 1),
-    ),
+    (b":001 J1 :000 J0", b" ", 16369, b"", Ok((1, 1))),
+    (b":001 J1 :000 J0", b" ", 16370, b"", Err((1, 0, 0))),
+    (b":001 J1 :000", b"\n", 16370, b"J0", Ok((1, 1))),
+    (b":001 J1", b"\n", 16377, b"", Err((10, 16378, 1))),
+    (b":001 ", b"L0 ", 2044, b"J1 :000 J0", Ok((2045, 1))),
+    (b":001 ", b"L0 ", 2045, b"J1 :000 J0", Err((6, 1, 6149))),
+    (b":001 ", b"[L0] ", 681, b"J1 :000 J0", Ok((2044, 1))),
     (
         b":001 ",
         b"G003 ",
         2042,
         b"J1 :000 J0 :003 R",
-        Verdict::Accepted(4085, 1),
+        Ok((4085, 1)),
     ),
 ];
 

@@ -1,5 +1,5 @@
 // Whether a text has the verdict of its row.
-use faults::Place;
+use faults::{Fault, Layer, Place};
 use linking::{Compiled, Figures, compile};
 use std::process::Abort;
 use std::test::Fail;
@@ -7,18 +7,16 @@ use std::test::Fail;
 // A record that is not the one of two empty modules.
 fn taken(rt: &impl Abort) -> Result<Compiled, Fail> {
     let mut record = Compiled::empty();
-    let Ok(figures) = compile(b":000 L1 J0 :001 L1 L2 J1", &mut record) else {
-        return Err(Fail::new("the first list is refused"));
-    };
-    assert!(rt; figures == Figures { quick: 3, slow: 2 });
+    let figures = compile(b":000 L1 J0 :001 L1 L2 J1", &mut record)?;
+    assert_eq!(rt; figures, Figures { quick: 3, slow: 2 });
     Ok(record)
 }
 
-fn layer_of(cause: u8) -> &'static str {
+fn layer_of(cause: u8) -> Layer {
     match cause {
-        1..=6 => "reading",
-        7 | 8 => "grammar",
-        _ => "linking",
+        1..=6 => Layer::Reading,
+        7 | 8 => Layer::Grammar,
+        _ => Layer::Linking,
     }
 }
 
@@ -32,16 +30,15 @@ pub(crate) fn refuses(
     column: u32,
 ) -> Result<(), Fail> {
     let mut record = taken(rt)?;
-    match compile(text, &mut record) {
-        Ok(_) => return Err(Fail::new(format_args!("row {row}: accepted"))),
-        Err(fault) => {
-            assert_eq!(rt; fault.cause(), cause, "row {row}");
-            assert_eq!(rt; fault.layer().name(), layer_of(cause), "row {row}");
-            assert!(rt; fault.place() == Place { line, column }, "row {row}");
-        }
-    }
-    assert!(rt;
-        record.figures() == Figures { quick: 1, slow: 1 },
+    let Err(fault) = compile(text, &mut record) else {
+        return Err(Fail::new(format_args!("row {row}: accepted")));
+    };
+    assert_eq!(rt; fault.cause(), cause, "row {row}");
+    assert_eq!(rt; fault.layer(), layer_of(cause), "row {row}");
+    assert_eq!(rt; fault.place(), Place { line, column }, "row {row}");
+    assert_eq!(rt;
+        record.figures(),
+        Figures { quick: 1, slow: 1 },
         "row {row}"
     );
     assert_eq!(rt; record.program().len(), 3, "row {row}");
@@ -59,11 +56,12 @@ pub(crate) fn accepts(
     slow: u16,
 ) -> Result<(), Fail> {
     let mut record = taken(rt)?;
-    match compile(text, &mut record) {
-        Ok(figures) => assert!(rt; figures == Figures { quick, slow }, "row {row}"),
-        Err(_) => return Err(Fail::new(format_args!("row {row}: refused"))),
-    }
-    assert!(rt; record.figures() == Figures { quick, slow }, "row {row}");
+    assert_eq!(rt;
+        compile(text, &mut record),
+        Ok(Figures { quick, slow }),
+        "row {row}"
+    );
+    assert_eq!(rt; record.figures(), Figures { quick, slow }, "row {row}");
     Ok(())
 }
 

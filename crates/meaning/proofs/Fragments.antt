@@ -1,7 +1,7 @@
 -- What a fragment of a program does, wherever it stands. Assumes nothing.
-use Rattle.std.proofs.Common.{◌≡◌, ℕ, zero, suc, ◌+◌, ◌<◌, ◌≤◌, max, Bool, true, false, cond, List, [], ◌∷◌, ◌++◌, length, get_or, drop, sym, refl, ap, ◌∙◌, subst, append_assoc, arith, length-append, drop-drop, lt-ltb}
+use Rattle.std.proofs.Common.{◌≡◌, ℕ, zero, suc, ◌+◌, ◌<◌, ◌≤◌, max, Bool, true, false, cond, List, [], ◌∷◌, ◌++◌, length, get_or, drop, sym, refl, ap, ◌∙◌, subst, append_assoc, arith, length-append, drop-drop, lt-ltb, Option}
 use lib.Seq.{drop-append_seam}
-use Rattle.program.specs.declared.instruction.Join.{Join}
+use Rattle.tokens.specs.declared.Operator.{Operator}
 use Rattle.program.specs.declared.instruction.Check.{Check}
 use Rattle.program.specs.declared.instruction.Instruction.{Instruction}
 use Rattle.program.specs.declared.instruction.Instruction.TheVariants.{Return, Open, Close, Test, Skip, Call}
@@ -79,7 +79,7 @@ module _ (i : Sight) (room : ℕ) (program : List Instruction) where
   saves e m n es s h = ap (λ (b : Bool). cond b (going m (e ∷ es) s) (stopped n es s)) (lt-ltb (length es) room h)
 
   -- ---- a bracket: the inside runs with the saved OP on top
-  pub runs_bracketed : (a : List Instruction) (o : Join) (k : ℕ) (f : Trail) → Runs k a f → Runs (1 + k) (bracket_code o a) (bracketed (joined o) f)
+  pub runs_bracketed : (a : List Instruction) (o : Option Operator) (k : ℕ) (f : Trail) → Runs k a f → Runs (1 + k) (bracket_code o a) (bracketed (joined o) f)
   runs_bracketed a o k f r n es s l h =
       let fs = Saved s.op o ∷ es in
       let u = last s (f s) in

@@ -32,7 +32,7 @@ module _ (i : Sight) (instructions : List Instruction) (c : Config) (s : State) 
     | inr h ↦ h
   ]
 
-  ended : (r : Pass) (b : Bool) → eqb r.steps (length ss) ≡ b → r.over ≡ b → r.steps ≤ length ss → r.steps ≤ allowance → (r.over ≡ false → r.steps ≡ allowance) → (r.steps ≡ min allowance (length ss)) × (r.over ≡ leb (length ss) allowance)
+  ended : (r : Pass) (b : Bool) → eqb r.steps (length ss) ≡ b → r.cpu.over ≡ b → r.steps ≤ length ss → r.steps ≤ allowance → (r.cpu.over ≡ false → r.steps ≡ allowance) → (r.steps ≡ min allowance (length ss)) × (r.cpu.over ≡ leb (length ss) allowance)
   ended r true e o low allowed used =
       let all : r.steps ≡ length ss = omega (arith, eqb-true, e) in
       (omega arith, o ∙ sym (le-leb (length ss) allowance (omega arith)))
@@ -41,15 +41,15 @@ module _ (i : Sight) (instructions : List Instruction) (c : Config) (s : State) 
       let less : r.steps < length ss = omega (arith, eqb-false, e) in
       (omega arith, o ∙ sym (lt-leb (length ss) allowance (omega arith)))
 
-  pub went : (r : Pass) (d : Config) → Ran i instructions c allowance r.steps r.over d → state r.cpu ≡ d.state → Went s ss allowance r
+  pub went : (r : Pass) (d : Config) → Ran i instructions c allowance r.steps r.cpu.over d → state r.cpu ≡ d.state → Went s ss allowance r
   went r d h same =
       let low = short r.steps h.live in
       let here = reached r.steps low in
-      let over : r.over ≡ eqb r.steps (length ss) = h.ends ∙ ap (λ (x : Config). x.over) h.ran ∙ here.over in
+      let over : r.cpu.over ≡ eqb r.steps (length ss) = h.ends ∙ ap (λ (x : Config). x.over) h.ran ∙ here.over in
       let both = ended r (eqb r.steps (length ss)) refl over low h.allowed h.used in
       record { steps = both.0; reached = same ∙ ap (λ (x : Config). x.state) h.ran ∙ here.state; over = both.1 }
 
-pub meant : (i : Sight) (instructions : List Instruction) (place : ℕ) (s : State) (allowance : ℕ) (r : Pass) (d : Config) → Ran i instructions (going place [] s) allowance r.steps r.over d → state r.cpu ≡ d.state → (ms : List Module) (l : ℕ) → Compiled ms l instructions place → Meant ms l i s allowance r
+pub meant : (i : Sight) (instructions : List Instruction) (place : ℕ) (s : State) (allowance : ℕ) (r : Pass) (d : Config) → Ran i instructions (going place [] s) allowance r.steps r.cpu.over d → state r.cpu ≡ d.state → (ms : List Module) (l : ℕ) → Compiled ms l instructions place → Meant ms l i s allowance r
 meant i instructions place s allowance r d h same ms l known =
     let here : (k : ℕ) → k ≤ length (trail ms l i s) → Reached s (trail ms l i s) k (ticks i 16 instructions k (going place [] s)) =
     λ k low. subst (λ xs. Reached s (trail ms l i s) k (ticks i 16 xs k (going place [] s))) (sym known.begins)

@@ -1,12 +1,10 @@
 -- The code of a list goes through the states that the list means. Assumes nothing.
-use Rattle.std.proofs.Common.{◌≡◌, ℕ, zero, suc, ◌+◌, ◌≤◌, max, Bool, true, false, cond, eqb, List, [], ◌∷◌, ◌++◌, length, get_or, sym, refl, ap, ◌∙◌, subst, le_of_suc-le-suc, arith, length-append, ne_eqb}
+use Rattle.std.proofs.Common.{◌≡◌, ℕ, zero, suc, ◌+◌, ◌≤◌, max, Bool, true, false, cond, eqb, List, [], ◌∷◌, ◌++◌, length, get_or, sym, refl, ap, ◌∙◌, subst, le_of_suc-le-suc, arith, length-append, ne_eqb, Some, None, Option}
 use lib.Dec.{eqb-suc-suc}
 use Rattle.tokens.specs.declared.Operator.{Operator}
 use Rattle.tokens.specs.declared.Comparison.{Comparison}
 use Rattle.grammar.specs.Grammar.{Load as LoadTree, number_loaded, bit_loaded, word_loaded, bracket_loaded, Ops, no_more, apply_then, Operand, number_taken, bit_taken, word_taken, bracket_taken, Act, bit_stored, word_stored, switched, called, Comparand, with_number, with_word, Test as TestTree, bit_tested, compared, Command, loading, applying, acting, choosing, Cmds, done, and_then, Alternative, no_else, else_do, Module, module_of}
 use Rattle.program.specs.declared.instruction.Source.TheVariants.{Number, Bit, Word}
-use Rattle.program.specs.declared.instruction.Join.{Join}
-use Rattle.program.specs.declared.instruction.Join.TheVariants.{Replace, With}
 use Rattle.program.specs.declared.instruction.Check.{Check}
 use Rattle.program.specs.declared.instruction.Instruction.{Instruction}
 use Rattle.program.specs.declared.instruction.Instruction.TheVariants.{Load, Apply, StoreBit, StoreWord, Switch}
@@ -54,7 +52,7 @@ module _ (i : Sight) (room : ℕ) (program : List Instruction) where
   abbrev RunsSo : ℕ → List Instruction → Trail → Type 0
   RunsSo k a f = Runs i room program k a f
 
-  runs_bracket : (o : Join) (l : LoadTree) (os : Ops) → RunsSo (load_depth l) (load_code l) (load_trail i l) → RunsSo (ops_depth os) (ops_code os) (ops_trail i os) → RunsSo (1 + max (load_depth l) (ops_depth os)) (bracket_code o (load_code l ++ ops_code os)) (bracketed (joined o) (thence (load_trail i l) (ops_trail i os)))
+  runs_bracket : (o : Option Operator) (l : LoadTree) (os : Ops) → RunsSo (load_depth l) (load_code l) (load_trail i l) → RunsSo (ops_depth os) (ops_code os) (ops_trail i os) → RunsSo (1 + max (load_depth l) (ops_depth os)) (bracket_code o (load_code l ++ ops_code os)) (bracketed (joined o) (thence (load_trail i l) (ops_trail i os)))
   runs_bracket o l os p q = runs_bracketed i room program (load_code l ++ ops_code os) o (max (load_depth l) (ops_depth os)) (thence (load_trail i l) (ops_trail i os)) (runs_thence i room program (load_code l) (ops_code os) (load_depth l) (ops_depth os) (load_trail i l) (ops_trail i os) p q)
 
   mutual
@@ -62,7 +60,7 @@ module _ (i : Sight) (room : ℕ) (program : List Instruction) where
     runs_load (number_loaded v) = runs_single i room program (Load (Number v)) (λ s. with_op s v) (λ n es s. refl)
     runs_load (bit_loaded c b) = runs_single i room program (Load (Bit c b)) (λ s. with_op s (turned_bit b (bit_value i s c))) (λ n es s. refl)
     runs_load (word_loaded c b) = runs_single i room program (Load (Word c b)) (λ s. with_op s (turned_word b (word_value i s c))) (λ n es s. refl)
-    runs_load (bracket_loaded l os) = runs_bracket Replace l os (runs_load l) (runs_ops os)
+    runs_load (bracket_loaded l os) = runs_bracket None l os (runs_load l) (runs_ops os)
 
     runs_ops : (os : Ops) → RunsSo (ops_depth os) (ops_code os) (ops_trail i os)
     runs_ops no_more = runs_nothing i room program
@@ -72,7 +70,7 @@ module _ (i : Sight) (room : ℕ) (program : List Instruction) where
     runs_operand o (number_taken v) = runs_single i room program (Apply o (Number v)) (λ s. with_op s (combined o s.op v)) (λ n es s. refl)
     runs_operand o (bit_taken c b) = runs_single i room program (Apply o (Bit c b)) (λ s. with_op s (combined o s.op (turned_bit b (bit_value i s c)))) (λ n es s. refl)
     runs_operand o (word_taken c b) = runs_single i room program (Apply o (Word c b)) (λ s. with_op s (combined o s.op (turned_word b (word_value i s c)))) (λ n es s. refl)
-    runs_operand o (bracket_taken l os) = runs_bracket (With o) l os (runs_load l) (runs_ops os)
+    runs_operand o (bracket_taken l os) = runs_bracket (Some o) l os (runs_load l) (runs_ops os)
 
   -- ---- commands, where each label's place serves its meaning
   module _ (at dep : ℕ → ℕ) (env : ℕ → Trail) (serve : (l : ℕ) → Serves i room program (dep l) (at l) (env l)) where

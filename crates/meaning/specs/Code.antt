@@ -1,18 +1,16 @@
 -- The code of a list: one instruction for each kind of step, in the order of the source. Assumes nothing.
-use Rattle.std.specs.Prelude.{ℕ, ◌+◌, cond, List, [], ◌∷◌, ◌++◌, length, ◌==◌}
+use Rattle.std.specs.Prelude.{ℕ, ◌+◌, cond, List, [], ◌∷◌, ◌++◌, length, ◌==◌, Some, None, Option}
 use Rattle.tokens.specs.declared.Operator.{Operator}
 use Rattle.grammar.specs.Grammar.{Load as LoadTree, number_loaded, bit_loaded, word_loaded, bracket_loaded, Ops, no_more, apply_then, Operand, number_taken, bit_taken, word_taken, bracket_taken, Act, bit_stored, word_stored, switched, called, Comparand, with_number, with_word, Test as TestTree, bit_tested, compared, Command, loading, applying, acting, choosing, Cmds, done, and_then, Alternative, no_else, else_do, Module, module_of}
 use Rattle.program.specs.declared.instruction.Source.{Source}
 use Rattle.program.specs.declared.instruction.Source.TheVariants.{Number, Bit, Word}
-use Rattle.program.specs.declared.instruction.Join.{Join}
-use Rattle.program.specs.declared.instruction.Join.TheVariants.{Replace, With}
 use Rattle.program.specs.declared.instruction.Check.{Check}
 use Rattle.program.specs.declared.instruction.Check.TheVariants.{Bit as BitCheck, Compare}
 use Rattle.program.specs.declared.instruction.Instruction.{Instruction}
 use Rattle.program.specs.declared.instruction.Instruction.TheVariants.{Return, Load, Apply, Open, Close, StoreBit, StoreWord, Switch, Test, Skip, Call}
 
 -- ---- code made of others
-abbrev pub bracket_code : Join → List Instruction → List Instruction
+abbrev pub bracket_code : Option Operator → List Instruction → List Instruction
 bracket_code j inside = Open j ∷ (inside ++ (Close ∷ []))
 
 -- a condition with a true branch only
@@ -33,7 +31,7 @@ abbrev mutual
   load_code (number_loaded v) = Load (Number v) ∷ []
   load_code (bit_loaded c n) = Load (Bit c n) ∷ []
   load_code (word_loaded c n) = Load (Word c n) ∷ []
-  load_code (bracket_loaded l os) = bracket_code Replace (load_code l ++ ops_code os)
+  load_code (bracket_loaded l os) = bracket_code None (load_code l ++ ops_code os)
 
   pub ops_code : Ops → List Instruction
   ops_code no_more = []
@@ -43,7 +41,7 @@ abbrev mutual
   operand_code o (number_taken v) = Apply o (Number v) ∷ []
   operand_code o (bit_taken c n) = Apply o (Bit c n) ∷ []
   operand_code o (word_taken c n) = Apply o (Word c n) ∷ []
-  operand_code o (bracket_taken l os) = bracket_code (With o) (load_code l ++ ops_code os)
+  operand_code o (bracket_taken l os) = bracket_code (Some o) (load_code l ++ ops_code os)
 
 -- ---- tests
 abbrev pub comparand_source : Comparand → Source

@@ -1,5 +1,5 @@
 -- Worked examples. Assumes nothing.
-use Rattle.std.specs.Prelude.{◌≡◌, ℕ, true, false, List, [], ◌∷◌, map, length, replicate, Ok, codes, slice_set}
+use Rattle.std.specs.Prelude.{◌≡◌, ℕ, true, false, List, [], ◌∷◌, map, length, replicate, Ok, codes, slice_set, Some}
 use Rattle.tokens.specs.declared.Area.TheVariants.{Input, Output, Internal}
 use Rattle.tokens.specs.declared.WordCell.TheVariants.{Pair}
 use Rattle.tokens.specs.declared.Operator.TheVariants.{Add, Subtract}
@@ -8,7 +8,6 @@ use Rattle.tokens.specs.Cells.{bit_cell_in}
 use Rattle.tokens.specs.Tokens.{kind_of}
 use Rattle.grammar.specs.Grammar.{number_loaded, word_loaded, no_more, apply_then, word_taken, bracket_taken, word_stored, switched, called, with_number, bit_tested, compared, loading, applying, acting, choosing, done, and_then, no_else, else_do, Module, module_of, spell}
 use Rattle.program.specs.declared.instruction.Source.TheVariants.{Number, Word}
-use Rattle.program.specs.declared.instruction.Join.TheVariants.{With}
 use Rattle.program.specs.declared.instruction.Check.TheVariants.{Bit as BitCheck, Compare}
 use Rattle.program.specs.declared.instruction.Instruction.TheVariants.{Return, Load, Apply, Open, Close, StoreWord, Switch, Test, Skip, Call}
 use Rattle.program.specs.Cells.{Sight, State}
@@ -84,7 +83,7 @@ pub record NestedStands : Type 0 where
   pub left : left_by nested 0 0 ≡ slice_set (replicate 144 0) 0 4
   pub depth_0 : depth nested 0 ≡ 2
   pub chain_0 : chain nested 0 ≡ 2
-  pub coded : code nested ≡ Load (Number 5) ∷ Open (With Add) ∷ Load (Number 1) ∷ Open (With Subtract) ∷ Load (Number 2) ∷ Close ∷ Close ∷ Call 9 ∷ Return ∷ Test (Compare Less (Number 9)) 1 ∷ StoreWord (Pair Internal 0) false ∷ Return ∷ Return ∷ []
+  pub coded : code nested ≡ Load (Number 5) ∷ Open (Some Add) ∷ Load (Number 1) ∷ Open (Some Subtract) ∷ Load (Number 2) ∷ Close ∷ Close ∷ Call 9 ∷ Return ∷ Test (Compare Less (Number 9)) 1 ∷ StoreWord (Pair Internal 0) false ∷ Return ∷ Return ∷ []
 
 pub record ExamplesStand : Type 0 where
   pub two_levels : TwoLevelsStand

@@ -19,7 +19,7 @@ beginning bs ts = record { op = 0; bytes = bs; timers = ts; stored = replicate 1
 pub record Went (s : State) (ss : List State) (allowance : ℕ) (r : Pass) : Type 0 where
   pub steps : r.steps ≡ min allowance (length ss)
   pub reached : state r.cpu ≡ slice_index_or (s ∷ ss) r.steps s
-  pub over : r.over ≡ nat_le (length ss) allowance
+  pub over : r.cpu.over ≡ nat_le (length ss) allowance
 
 -- the record begins with the code of these modules, and the pass begins at module l, for which 16 entries are enough
 pub record Compiled (ms : List Module) (l : ℕ) (instructions : List Instruction) (place : ℕ) : Type 0 where

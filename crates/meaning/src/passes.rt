@@ -27,6 +27,6 @@ pub fn run_pass(
     let mut slots = [Entry::Back(0); 16];
     let mut stack = Stack::new(&mut slots);
     let mut cpu = Cpu::new(bytes, timers, place);
-    let (steps, over) = cpu.run(program, sight, &mut stack, allowance);
-    Pass { cpu, steps, over }
+    let steps = cpu.run(program, sight, &mut stack, allowance);
+    Pass { cpu, steps }
 }

@@ -3,7 +3,7 @@ use Rattle.std.specs.Prelude.{ℕ, Bool, true, cond, replicate, Ok, Result, nat_
 use Rattle.panel.specs.declared.PanelFault.{PanelFault}
 use Rattle.panel.specs.declared.bench.Bench.{Bench}
 use Rattle.panel.specs.Answers.{for_word}
-use Rattle.panel.specs.Meaning.{Meaning}
+use Rattle.panel.specs.Meaning.{Meaning, Sized}
 
 abbrev pub bench_meaning : Bench → Meaning
 bench_meaning b = record {
@@ -51,3 +51,12 @@ with_output_answer m k b = record {
 -- a setter changes a word that there is, and else nothing
 abbrev pub when_word : ℕ → Meaning → Meaning → Meaning
 when_word k changed m = cond (nat_lt k 8) changed m
+
+-- a bench has eight words of each kind
+pub sized_bench : (b : Bench) → Sized (bench_meaning b)
+sized_bench b = record {
+  inputs_long = b.sized.0;
+  outputs_long = b.sized.1;
+  input_answers_long = b.sized.2;
+  output_answers_long = b.sized.3;
+}

@@ -1,7 +1,8 @@
 -- Number, layer and place of each fault of a panel. Assumes nothing.
-use Rattle.std.specs.Prelude.{ℕ}
+use Rattle.std.specs.Prelude.{ℕ, refl}
 use Rattle.faults.specs.declared.Layer.{Layer}
 use Rattle.faults.specs.declared.Layer.TheVariants.{Panel}
+use Rattle.faults.specs.Layers.{CauseOfItsLayer}
 use Rattle.panel.specs.declared.PanelFault.{PanelFault}
 use Rattle.panel.specs.declared.PanelFault.TheVariants.{NoSuchWord, Silent}
 
@@ -16,3 +17,8 @@ layer_of e = Panel
 abbrev pub place_of : PanelFault → ℕ
 place_of (NoSuchWord k) = k
 place_of (Silent k) = k
+
+-- the causes are those of the panel layer
+pub causes_of_panels : CauseOfItsLayer cause_of layer_of
+causes_of_panels (NoSuchWord k) = refl
+causes_of_panels (Silent k) = refl

@@ -2,12 +2,12 @@
 #![tactic(auto)]
 
 ghost use Rattle.std.specs.Prelude.{◌≡◌, ℕ, List, []};
-ghost use Rattle.panel.specs.Answers.{index_of, read_of, put_answer};
-ghost use Rattle.panel.specs.Faults.{cause_of, layer_of, place_of};
+ghost use Rattle.panel.specs.Answers.{index_of, unless_silent, read_of, put_answer};
+ghost use Rattle.panel.specs.Faults.{cause_of, layer_of, place_of, causes_of_panels};
 ghost use Rattle.panel.specs.Meaning.{Meaning, Sized, after_put};
 
 pub use bench::Bench;
-use faults::Layer;
+use faults::{Fault, Layer};
 pub use sweeps::{put_all, read_all};
 
 pub mod bench;
@@ -20,31 +20,32 @@ pub enum PanelFault {
     Silent(u8),
 }
 
-impl PanelFault {
-    // The cause's number.
-    pub fn cause(self) -> u8
-        ensures { result ≡ cause_of self }
-    {
+impl Fault for PanelFault {
+    type Place = u8;
+
+    ghost cause_of = { cause_of };
+
+    ghost layer_of = { layer_of };
+
+    ghost place_of = { place_of };
+
+    ghost laws = { causes_of_panels };
+
+    fn cause(self) -> u8 {
         match self {
             PanelFault::NoSuchWord(_) => 16,
             PanelFault::Silent(_) => 15,
         }
     }
 
-    // The layer that refuses.
-    pub fn layer(self) -> Layer
-        ensures { result ≡ layer_of self }
-    {
+    fn layer(self) -> Layer {
         Layer::Panel
     }
 
     // The word that is refused.
-    pub fn word(self) -> u8
-        ensures { result ≡ place_of self }
-    {
+    fn place(self) -> u8 {
         match self {
-            PanelFault::NoSuchWord(word) => word,
-            PanelFault::Silent(word) => word,
+            PanelFault::NoSuchWord(word) | PanelFault::Silent(word) => word,
         }
     }
 }
@@ -53,14 +54,20 @@ impl PanelFault {
 pub fn word_index(word: u8) -> Result<usize, PanelFault>
     ensures { result ≡ index_of word }
 {
-    if word > 7 {
-        return Err(PanelFault::NoSuchWord(word));
-    }
-    Ok(usize::from(word))
+    (word < 8)
+        .then_some(usize::from(word))
+        .ok_or(PanelFault::NoSuchWord(word))
+}
+
+// Lets a word pass that answers. Every panel refuses a silent one by 15.
+pub fn check_answers(word: u8, answers: bool) -> Result<(), PanelFault>
+    ensures { result ≡ unless_silent word answers }
+{
+    answers.then_some(()).ok_or(PanelFault::Silent(word))
 }
 
 // A panel shows its meaning and nothing else: reading an answering input gives its word, putting an answering output replaces
-// that word, and a refused call changes nothing. It has eight words of each kind.
+// that word, and a refused call changes nothing.
 pub trait Panel {
     ghost meaning: { Self → Meaning };
 
@@ -70,12 +77,13 @@ pub trait Panel {
     fn read(&mut self, word: u8) -> Result<u16, PanelFault>
         ensures answer { result ≡ read_of (meaning self.old) word }
         ensures after { meaning self.new ≡ meaning self.old }
-        ensures rest { rest self.new ≡ rest self.old }
-        ensures sized { Sized (meaning self.new) };
+        ensures rest { rest self.new ≡ rest self.old };
 
     fn put(&mut self, word: u8, value: u16) -> Result<(), PanelFault>
         ensures answer { result ≡ put_answer (meaning self.old) word }
         ensures after { meaning self.new ≡ after_put (meaning self.old) word value }
-        ensures rest { rest self.new ≡ rest self.old }
-        ensures sized { Sized (meaning self.new) };
+        ensures rest { rest self.new ≡ rest self.old };
+
+    // It has eight words of each kind.
+    ghost sized: { (p : Self) → Sized (meaning p) };
 }

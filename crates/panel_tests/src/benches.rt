@@ -1,34 +1,12 @@
 // Benches: what is set, read and put, and what is refused.
-use faults::Layer;
-use panel::{Bench, Panel, PanelFault};
+use crate::verdict::refused;
+use panel::{Bench, Panel};
 use std::process::Abort;
 use std::test::Fail;
 
-fn refused<T: Drop>(
-    rt: &impl Abort,
-    answer: Result<T, PanelFault>,
-    cause: u8,
-    word: u8,
-) -> Result<(), Fail> {
-    match answer {
-        Ok(_) => Err(Fail::new("not refused")),
-        Err(fault) => {
-            assert_eq!(rt; fault.cause(), cause);
-            assert_eq!(rt; fault.word(), word);
-            assert!(rt; fault.layer() == Layer::Panel);
-            Ok(())
-        }
-    }
-}
-
 fn reads(rt: &impl Abort, bench: &mut Bench, word: u8, value: u16) -> Result<(), Fail> {
-    match bench.read(word) {
-        Ok(got) => {
-            assert_eq!(rt; got, value);
-            Ok(())
-        },
-        Err(_) => Err(Fail::new("refused")),
-    }
+    assert_eq!(rt; bench.read(word)?, value);
+    Ok(())
 }
 
 #[test]
@@ -76,10 +54,7 @@ fn silent_words(rt: HostRuntime) -> Result<(), Fail> {
         assert!(rt; bench.set_input_answers(word, true).is_ok());
         assert!(rt; bench.set_output_answers(word, true).is_ok());
         reads(&rt, &mut bench, word, 65535)?;
-        match bench.outputs().get(word as usize) {
-            Some(value) => assert_eq!(rt; *value, 88),
-            None => return Err(Fail::new("no word")),
-        }
+        assert_eq!(rt; bench.outputs().get(word as usize).copied(), Some(88));
     }
     Ok(())
 }

@@ -1,6 +1,6 @@
 // Fields of a tape, in every place of a line.
+use crate::verdict::refuses;
 use panel::Panel;
-use std::process::Abort;
 use std::test::Fail;
 use tape::Tape;
 
@@ -105,24 +105,9 @@ fn line_with(field: &[u8; 6], word: usize) -> [u8; 49] {
 
 // What is read at the first line.
 fn first_read(line: &[u8], word: u8) -> Result<Option<u16>, Fail> {
-    match Tape::new(line) {
-        Err(_) => Err(Fail::new("refused")),
-        Ok(tape) => {
-            let mut tape = tape;
-            tape.move_on();
-            Ok(tape.read(word).ok())
-        }
-    }
-}
-
-fn refuses(rt: &impl Abort, row: usize, line: &[u8]) -> Result<(), Fail> {
-    match Tape::new(line) {
-        Ok(_) => Err(Fail::new(format_args!("row {row}: accepted"))),
-        Err(fault) => {
-            assert_eq!(rt; fault.line(), 1, "row {row}");
-            Ok(())
-        },
-    }
+    let mut tape = Tape::new(line)?;
+    tape.move_on();
+    Ok(tape.read(word).ok())
 }
 
 #[test]
@@ -148,9 +133,10 @@ fn dashes(rt: HostRuntime) -> Result<(), Fail> {
 
 #[test]
 fn bad_fields(rt: HostRuntime) -> Result<(), Fail> {
-    for (row, field) in BAD.iter().enumerate() {
+    for field in &BAD {
         for word in 0..8usize {
-            refuses(&rt, row, &line_with(field, word))?;
+            let line = line_with(field, word);
+            refuses(&rt, &line, 1)?;
         }
     }
     Ok(())
@@ -161,7 +147,7 @@ fn bad_fields(rt: HostRuntime) -> Result<(), Fail> {
 fn bytes(rt: HostRuntime) {
     for b in 0..=255u8 {
         let line = line_with(&[b' ', b' ', b' ', b' ', b' ', b], 3);
-        let good = b == b'-' || (b'0' <= b && b <= b'9');
+        let good = b == b'-' || b.is_ascii_digit();
         assert!(rt; Tape::new(&line).is_ok() == good);
         let mut ended = line_with(b"     7", 0);
         ended[48] = b;

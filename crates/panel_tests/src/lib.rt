@@ -9,3 +9,5 @@ mod fields;
 mod sweeps;
 #[cfg(test)]
 mod tapes;
+#[cfg(test)]
+mod verdict;

@@ -44,22 +44,17 @@ fn over_bench(rt: HostRuntime) -> Result<(), Fail> {
 
 #[test]
 fn over_tape(rt: HostRuntime) -> Result<(), Fail> {
-    match Tape::new(
+    let mut tape = Tape::new(
         b"     1     2     3     4     5     6     7     8\n     1     2     3     4     -     6     -     8\n",
-    ) {
-        Err(_) => Err(Fail::new("refused")),
-        Ok(tape) => {
-            let mut tape = tape;
-            runs(&rt, &mut tape, Err(PanelFault::Silent(0)), 0)?;
-            assert_eq!(rt; *tape.outputs(), WORDS);
-            tape.move_on();
-            runs(&rt, &mut tape, Ok([1, 2, 3, 4, 5, 6, 7, 8]), 0)?;
-            tape.move_on();
-            runs(&rt, &mut tape, Err(PanelFault::Silent(4)), 0)?;
-            tape.move_on();
-            runs(&rt, &mut tape, Err(PanelFault::Silent(0)), 0)
-        }
-    }
+    )?;
+    runs(&rt, &mut tape, Err(PanelFault::Silent(0)), 0)?;
+    assert_eq!(rt; *tape.outputs(), WORDS);
+    tape.move_on();
+    runs(&rt, &mut tape, Ok([1, 2, 3, 4, 5, 6, 7, 8]), 0)?;
+    tape.move_on();
+    runs(&rt, &mut tape, Err(PanelFault::Silent(4)), 0)?;
+    tape.move_on();
+    runs(&rt, &mut tape, Err(PanelFault::Silent(0)), 0)
 }
 
 #[test]

@@ -1,5 +1,5 @@
 // Tapes: lengths, lines that are refused, and what a tape says line by line.
-use faults::Layer;
+use crate::verdict::{refused, refuses};
 use panel::Panel;
 use std::process::Abort;
 use std::test::Fail;
@@ -18,26 +18,9 @@ const PART: &[u8; 23] = b"     0     0     0     ";
 
 const MORE: &[u8; 24] = b"     0     0     0     0";
 
-fn refuses(rt: &impl Abort, bytes: &[u8], line: u32) -> Result<(), Fail> {
-    match Tape::new(bytes) {
-        Ok(_) => Err(Fail::new("accepted")),
-        Err(fault) => {
-            assert_eq!(rt; fault.cause(), 17);
-            assert!(rt; fault.layer() == Layer::Panel);
-            assert_eq!(rt; fault.line(), line);
-            Ok(())
-        }
-    }
-}
-
 fn accepts(rt: &impl Abort, bytes: &[u8], lines: usize) -> Result<(), Fail> {
-    match Tape::new(bytes) {
-        Ok(tape) => {
-            assert_eq!(rt; tape.lines(), lines);
-            Ok(())
-        },
-        Err(_) => Err(Fail::new("refused")),
-    }
+    assert_eq!(rt; Tape::new(bytes)?.lines(), lines);
+    Ok(())
 }
 
 // Some good lines, then other bytes.
@@ -118,16 +101,10 @@ const ROWS: [[Option<u16>; 8]; 3] = [
 ];
 
 fn says(rt: &impl Abort, tape: &mut Tape<'_>, row: &[Option<u16>; 8]) -> Result<(), Fail> {
-    for word in 0..8u8 {
-        assert_eq!(rt; tape.read(word).ok(), row[word as usize]);
+    for (word, entry) in (0u8..).zip(row) {
+        assert_eq!(rt; tape.read(word).ok(), *entry);
     }
-    match tape.read(8) {
-        Ok(_) => Err(Fail::new("a ninth word")),
-        Err(fault) => {
-            assert_eq!(rt; fault.cause(), 16);
-            Ok(())
-        },
-    }
+    refused(rt, tape.read(8), 16, 8)
 }
 
 // What is written is read again, line by line, and all is silent at both ends.
@@ -137,43 +114,33 @@ fn moves(rt: HostRuntime) -> Result<(), Fail> {
     for row in &ROWS {
         bytes.extend_from_slice(&write_line(row))?;
     }
-    match Tape::new(bytes.as_slice()) {
-        Err(_) => Err(Fail::new("refused")),
-        Ok(tape) => {
-            let mut tape = tape;
-            assert_eq!(rt; tape.line(), 0);
-            says(&rt, &mut tape, &[None; 8])?;
-            assert!(rt; tape.put(3, 9).is_ok());
-            for (n, row) in ROWS.iter().enumerate() {
-                tape.move_on();
-                assert_eq!(rt; tape.line(), n + 1);
-                says(&rt, &mut tape, row)?;
-            }
-            for _ in 0..3 {
-                tape.move_on();
-                assert_eq!(rt; tape.line(), 4);
-                says(&rt, &mut tape, &[None; 8])?;
-            }
-            assert_eq!(rt; *tape.outputs(), [0, 0, 0, 9, 0, 0, 0, 0]);
-            Ok(())
-        }
+    let mut tape = Tape::new(bytes.as_slice())?;
+    assert_eq!(rt; tape.line(), 0);
+    says(&rt, &mut tape, &[None; 8])?;
+    assert!(rt; tape.put(3, 9).is_ok());
+    for (n, row) in ROWS.iter().enumerate() {
+        tape.move_on();
+        assert_eq!(rt; tape.line(), n + 1);
+        says(&rt, &mut tape, row)?;
     }
+    for _ in 0..3 {
+        tape.move_on();
+        assert_eq!(rt; tape.line(), 4);
+        says(&rt, &mut tape, &[None; 8])?;
+    }
+    assert_eq!(rt; *tape.outputs(), [0, 0, 0, 9, 0, 0, 0, 0]);
+    Ok(())
 }
 
-// A tape with no lines is at its last line's end after one move.
+// A tape with no lines is behind its last line after one move.
 #[test]
 fn no_lines(rt: HostRuntime) -> Result<(), Fail> {
-    match Tape::new(b"") {
-        Err(_) => Err(Fail::new("refused")),
-        Ok(tape) => {
-            let mut tape = tape;
-            says(&rt, &mut tape, &[None; 8])?;
-            tape.move_on();
-            tape.move_on();
-            assert_eq!(rt; tape.line(), 1);
-            says(&rt, &mut tape, &[None; 8])
-        }
-    }
+    let mut tape = Tape::new(b"")?;
+    says(&rt, &mut tape, &[None; 8])?;
+    tape.move_on();
+    tape.move_on();
+    assert_eq!(rt; tape.line(), 1);
+    says(&rt, &mut tape, &[None; 8])
 }
 
 #[test]

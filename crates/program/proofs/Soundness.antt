@@ -1,31 +1,17 @@
 -- Sound code, place by place. Assumes nothing.
-use Rattle.std.proofs.Common.{◌≡◌, ℕ, zero, suc, ◌+◌, ◌-◌, ◌<◌, ◌≤◌, Bool, true, false, not, ◌&&◌, ltb, leb, List, [], ◌∷◌, ◌++◌, length, get_or, set, replicate, sym, refl, ap, ◌∙◌, add-one, arith, below_more, ltb-false, ltb-true, leb-true}
-use Rattle.std.proofs.lemmas.List.{get_or_past, get_or-set_same, get_or-set_other, ext_get_or, length-append, length-replicate}
+use Rattle.std.proofs.Common.{◌≡◌, ℕ, zero, suc, ◌+◌, ◌-◌, ◌<◌, ◌≤◌, Bool, true, false, not, ◌&&◌, ltb, leb, List, [], ◌∷◌, ◌++◌, length, get_or, drop, replicate, slice_range, sym, refl, ap, ◌∙◌, arith, ltb-false, ltb-true, leb-true}
+use Rattle.std.specs.Bool.{MatchBool}
+use Rattle.std.proofs.lemmas.Bool.{and_parts, and_right}
+use Rattle.std.specs.List.{AllWithin, HoldsAt, range_with_len}
+use Rattle.std.proofs.lemmas.List.{get_or_past, get_or-take, get_or-drop, length-take-le, length-drop}
+use Rattle.std.proofs.lemmas.List.FromFn.{get_or-range_with_len, length-range_with_len}
 use Rattle.program.specs.declared.instruction.Instruction.{Instruction}
 use Rattle.program.specs.declared.instruction.Instruction.TheVariants.{Return, Load, Apply, Open, Close, StoreBit, StoreWord, Switch, Test, Skip, Call}
 use Rattle.program.specs.Sound.{known, inside, skipped, ends, unbroken, fine, fine_as, all_fine, sound, padded}
 
-and_left : (a b : Bool) → a && b ≡ true → a ≡ true
-and_left true b e = refl
-and_left false b e = e
-
-and_right : (a b : Bool) → a && b ≡ true → b ≡ true
-and_right true b e = e
-and_right false true e = refl
-and_right false false e = e
-
 -- what is known of an instruction that may stand where it stands
-pub fine_known : (code : List Instruction) (len n : ℕ) → fine code len n ≡ true → known (get_or code n Return) ≡ true
-fine_known code len n e = and_left _ _ e
-
 pub fine_inside : (code : List Instruction) (len n : ℕ) → fine code len n ≡ true → inside len n (get_or code n Return) ≡ true
-fine_inside code len n e = and_left _ _ (and_right _ _ e)
-
-pub fine_unbroken : (code : List Instruction) (len n : ℕ) → fine code len n ≡ true → unbroken code (n + 1) (skipped (get_or code n Return)) ≡ true
-fine_unbroken code len n e =
-    let i = get_or code n Return in
-    let rest = inside len n i && unbroken code (n + 1) (skipped i) in
-    and_right (inside len n i) (unbroken code (n + 1) (skipped i)) (and_right (known i) rest e)
+fine_inside code len n e = (and_parts _ _ (and_parts _ _ e).1).0
 
 -- behind the code stands nothing but `Return`
 pub behind : (code : List Instruction) (len n : ℕ) → fine code len n ≡ true → len ≤ n → get_or code n Return ≡ Return
@@ -46,19 +32,12 @@ behind code len n e h = go (get_or code n Return) (fine_inside code len n e)
     go (Test x k) q = absurd (past (n + 1 + k) (omega arith) q)
     go (Skip k) q = absurd (past (n + 1 + k) (omega arith) q)
     go (Call m) q =
-        let first : n < m = ltb-true n m (and_left (ltb n m) (ltb m len) q) in
-        absurd (past m (omega arith) (and_right (ltb n m) (ltb m len) q))
-
-and_false : (b : Bool) → b && false ≡ false
-and_false true = refl
-and_false false = refl
-
--- one instruction more
-pub unbroken_more : (code : List Instruction) (n k : ℕ) → unbroken code n k ≡ true → ends (get_or code (n + k) Return) ≡ false → unbroken code n (k + 1) ≡ true
-unbroken_more code n k h e = rw add-one (λ i. h i && not (e i))
+        let both = and_parts (ltb n m) (ltb m len) q in
+        let first : n < m = ltb-true n m both.0 in
+        absurd (past m (omega arith) both.1)
 
 -- a module that ends among the first instructions ends among more
-pub broken : (code : List Instruction) (n k count : ℕ) → k < count → ends (get_or code (n + k) Return) ≡ true → unbroken code n count ≡ false
+broken : (code : List Instruction) (n k count : ℕ) → k < count → ends (get_or code (n + k) Return) ≡ true → unbroken code n count ≡ false
 broken code n k zero h e = let none : ⊥ = omega arith in elim none [ ]
 broken code n k (suc count) h e = go (ltb k count) refl (λ l. broken code n k count l e)
   where
@@ -68,12 +47,31 @@ broken code n k (suc count) h e = go (ltb k count) refl (λ l. broken code n k c
         let le : count ≤ k = ltb-false k count q in
         let same : k ≡ count = omega arith in
         let ended : ends (get_or code (n + count) Return) ≡ true = sym (ap (λ (m : ℕ). ends (get_or code (n + m) Return)) same) ∙ e in
-        ap (λ (b : Bool). unbroken code n count && not b) ended ∙ and_false (unbroken code n count)
+        and_right (unbroken code n count) (not (ends (get_or code (n + count) Return))) (ap not ended)
 
-pub all_fine_more : (code : List Instruction) (len n : ℕ) → all_fine code len n ≡ true → fine code len n ≡ true → all_fine code len (n + 1) ≡ true
-all_fine_more code len n h e = rw add-one (λ i. h i && e i)
+-- no module ends among instructions none of which ends one
+unbroken_each : (code : List Instruction) (n count : ℕ) → ((k : ℕ) → k < count → ends (get_or code (n + k) Return) ≡ false) → unbroken code n count ≡ true
+unbroken_each code n zero h = refl
+unbroken_each code n (suc count) h =
+    let before = unbroken_each code n count (λ k l. h k (omega arith)) in
+    let here = h count (omega arith) in λ i. before i && not (here i)
 
-pub not_all_fine : (code : List Instruction) (len n count : ℕ) → n < count → fine code len n ≡ false → all_fine code len count ≡ false
+-- what is found in a slice of the code
+pub unbroken_slice : (code xs : List Instruction) (n count : ℕ) (r : Bool) → n + count ≤ length code → xs ≡ slice_range code n (n + count)
+    → MatchBool r (AllWithin (λ i. ends i ≡ false) xs 0 (length xs)) ((k : ℕ) × (k < length xs) × HoldsAt (λ i. ends i ≡ true) xs k) → r ≡ unbroken code n count
+unbroken_slice code xs n count r h e = go r
+  where
+    long : length xs ≡ count
+    long = ap length e ∙ omega (arith, length-take-le (n + count - n) (drop n code), length-drop n code)
+
+    read : (k : ℕ) → k < count → get_or xs k Return ≡ get_or code (n + k) Return
+    read k l = ap (λ (ys : List Instruction). get_or ys k Return) e ∙ get_or-take (n + count - n) (drop n code) k Return (omega arith) ∙ get_or-drop n code k Return
+
+    go : (r : Bool) → MatchBool r (AllWithin (λ i. ends i ≡ false) xs 0 (length xs)) ((k : ℕ) × (k < length xs) × HoldsAt (λ i. ends i ≡ true) xs k) → r ≡ unbroken code n count
+    go true none = sym (unbroken_each code n count (λ k l. sym (ap ends (read k l)) ∙ none k Return (omega arith) (omega (arith, long))))
+    go false (k, l, is) = let inside : k < count = omega (arith, long) in sym (broken code n k count inside (sym (ap ends (read k inside)) ∙ is Return))
+
+not_all_fine : (code : List Instruction) (len n count : ℕ) → n < count → fine code len n ≡ false → all_fine code len count ≡ false
 not_all_fine code len n zero h e = let none : ⊥ = omega arith in elim none [ ]
 not_all_fine code len n (suc count) h e = go (ltb n count) refl (λ l. not_all_fine code len n count l e)
   where
@@ -83,7 +81,25 @@ not_all_fine code len n (suc count) h e = go (ltb n count) refl (λ l. not_all_f
         let le : count ≤ n = ltb-false n count q in
         let same : n ≡ count = omega arith in
         let bad : fine code len count ≡ false = sym (ap (fine code len) same) ∙ e in
-        ap (λ (b : Bool). all_fine code len count && b) bad ∙ and_false (all_fine code len count)
+        and_right (all_fine code len count) (fine code len count) bad
+
+each_all_fine : (code : List Instruction) (len count : ℕ) → ((n : ℕ) → n < count → fine code len n ≡ true) → all_fine code len count ≡ true
+each_all_fine code len zero h = refl
+each_all_fine code len (suc count) h =
+    let before = each_all_fine code len count (λ n l. h n (omega arith)) in
+    let here = h count (omega arith) in λ i. before i && here i
+
+-- what is found at the places of the code, one after the other
+pub all_fine_places : (code : List Instruction) (len : ℕ) (r : Bool)
+    → MatchBool r (AllWithin (λ n. fine code len n ≡ true) (range_with_len 0 len) 0 (length (range_with_len 0 len))) ((k : ℕ) × (k < length (range_with_len 0 len)) × HoldsAt (λ n. fine code len n ≡ false) (range_with_len 0 len) k) → r ≡ all_fine code len len
+all_fine_places code len r = go r
+  where
+    place : (k : ℕ) → k < len → get_or (range_with_len 0 len) k 0 ≡ k
+    place k l = omega (arith, get_or-range_with_len 0 len k 0 l)
+
+    go : (r : Bool) → MatchBool r (AllWithin (λ n. fine code len n ≡ true) (range_with_len 0 len) 0 (length (range_with_len 0 len))) ((k : ℕ) × (k < length (range_with_len 0 len)) × HoldsAt (λ n. fine code len n ≡ false) (range_with_len 0 len) k) → r ≡ all_fine code len len
+    go true each = sym (each_all_fine code len len (λ k l. sym (ap (fine code len) (place k l)) ∙ each k 0 (omega arith) (omega (arith, length-range_with_len 0 len))))
+    go false (k, l, is) = let inside : k < len = omega (arith, length-range_with_len 0 len) in sym (not_all_fine code len k len inside (sym (ap (fine code len) (place k inside)) ∙ is 0))
 
 -- where all are fine, each is
 each_fine : (code : List Instruction) (len n count : ℕ) → n < count → all_fine code len count ≡ true → fine code len n ≡ true
@@ -129,20 +145,6 @@ padded_fine code e n = fine_same (padded code) code (get_d_padded code (2048 - l
 pub returns_fine : (m len n : ℕ) → fine (replicate m Return) len n ≡ true
 returns_fine m len n = ap (fine_as (replicate m Return) len n) (only_returns m n)
 
--- slots that hold the same as the code at each place are the code with `Return` behind it
-pub filled : (slots code : List Instruction) → length code ≤ length slots → ((k : ℕ) → k < length slots → get_or slots k Return ≡ get_or code k Return) → slots ≡ code ++ replicate (length slots - length code) Return
-filled slots code h same =
-    ext_get_or Return slots (code ++ replicate (length slots - length code) Return)
-    (omega (arith, length-append code (replicate (length slots - length code) Return), length-replicate (length slots - length code) Return))
-    (λ k l. same k l ∙ sym (get_d_padded code (length slots - length code) k))
-
--- one slot more
-pub filled_more : (slots code : List Instruction) (i : ℕ) (x : Instruction) → i < length slots → ((k : ℕ) → k < i → get_or slots k Return ≡ get_or code k Return) → x ≡ get_or code i Return
-    → (k : ℕ) → k < i + 1 → get_or (set slots i x) k Return ≡ get_or code k Return
-filled_more slots code i x h before here =
-    let P : ℕ → Type 0 = λ k. get_or (set slots i x) k Return ≡ get_or code k Return in
-    below_more P i (λ k l. get_or-set_other slots i k x Return (λ e. omega arith) ∙ before k l) (get_or-set_same slots i x Return h ∙ here)
-
 -- what it is to be sound, part by part
 pub record Parts (code : List Instruction) (quick slow : ℕ) : Type 0 where
   pub short : length code ≤ 2048
@@ -154,11 +156,7 @@ pub parts : (code : List Instruction) (quick slow : ℕ) → sound code quick sl
 parts code quick slow e =
     let len = length code in
     let all = all_fine code len len in
-    let e1 = and_right (leb len 2048) (ltb quick len && (ltb slow len && all)) e in
-    let e2 = and_right (ltb quick len) (ltb slow len && all) e1 in
-    record {
-      short = leb-true len 2048 (and_left (leb len 2048) (ltb quick len && (ltb slow len && all)) e);
-      quick_inside = ltb-true quick len (and_left (ltb quick len) (ltb slow len && all) e1);
-      slow_inside = ltb-true slow len (and_left (ltb slow len) all e2);
-      each = and_right (ltb slow len) all e2;
-    }
+    let from = and_parts (leb len 2048) (ltb quick len && (ltb slow len && all)) e in
+    let rest = and_parts (ltb quick len) (ltb slow len && all) from.1 in
+    let last = and_parts (ltb slow len) all rest.1 in
+    record { short = leb-true len 2048 from.0; quick_inside = ltb-true quick len rest.0; slow_inside = ltb-true slow len last.0; each = last.1 }

@@ -23,6 +23,10 @@ pub record State : Type 0 where
   pub timers : List ℕ
   pub stored : List Bool
 
+-- a bit as a number
+abbrev pub number : Bool → ℕ
+number b = cond b 1 0
+
 -- bit r of a byte or a word
 abbrev pub bit_of_byte : ℕ → ℕ → ℕ
 bit_of_byte v r = v / 2 ^ r % 2
@@ -137,4 +141,4 @@ store_word_of s c n = word_put s c (turned_word n s.op)
 
 -- `U` stores 1 and `D` 0
 abbrev pub switch_bit_of : State → BitCell → Bool → State
-switch_bit_of s c on = bit_put s c (cond on 1 0)
+switch_bit_of s c on = bit_put s c (number on)

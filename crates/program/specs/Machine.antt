@@ -1,9 +1,8 @@
 -- The machine: what one instruction does, and what many do one after the other. Assumes nothing.
-use Rattle.std.specs.Prelude.{ℕ, zero, suc, ◌+◌, Bool, true, false, cond, List, [], ◌∷◌, length, ◌==◌, nat_lt, slice_index_or}
+use Rattle.std.specs.Prelude.{ℕ, zero, suc, ◌+◌, Bool, true, false, cond, List, [], ◌∷◌, length, ◌==◌, nat_lt, slice_index_or, Some, None, Option}
+use Rattle.tokens.specs.declared.Operator.{Operator}
 use Rattle.program.specs.declared.instruction.Source.{Source}
 use Rattle.program.specs.declared.instruction.Source.TheVariants.{Number, Bit, Word}
-use Rattle.program.specs.declared.instruction.Join.{Join}
-use Rattle.program.specs.declared.instruction.Join.TheVariants.{Replace, With}
 use Rattle.program.specs.declared.instruction.Check.{Check}
 use Rattle.program.specs.declared.instruction.Check.TheVariants.{Bit as BitCheck, Compare}
 use Rattle.program.specs.declared.instruction.Instruction.{Instruction}
@@ -17,10 +16,10 @@ source_value i s (Number v) = v
 source_value i s (Bit c n) = turned_bit n (bit_value i s c)
 source_value i s (Word c n) = turned_word n (word_value i s c)
 
--- what the saved OP and the value of a bracket make
-abbrev pub joined : Join → ℕ → ℕ → ℕ
-joined Replace saved v = v
-joined (With o) saved v = combined o saved v
+-- what the saved OP and the value of a bracket make, by the operator before the bracket, if there is one
+abbrev pub joined : Option Operator → ℕ → ℕ → ℕ
+joined None saved v = v
+joined (Some o) saved v = combined o saved v
 
 -- whether a condition is met
 abbrev pub met : Sight → State → Check → Bool

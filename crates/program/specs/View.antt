@@ -1,11 +1,14 @@
 -- What the machine's values stand for. Assumes nothing.
-use Rattle.std.specs.Prelude.{ℕ, false, List, [], replicate}
+use Rattle.std.specs.Prelude.{◌≡◌, ℕ, true, false, List, [], replicate}
+use Rattle.stack.specs.declared.stacks.Stack.{Stack}
+use Rattle.stack.specs.Entries.{room, lender}
 use Rattle.program.specs.declared.instruction.Instruction.{Instruction}
 use Rattle.program.specs.declared.instruction.Entry.{Entry}
 use Rattle.program.specs.declared.cpu.Cpu.{Cpu}
 use Rattle.program.specs.declared.sight.Sight.{Sight as Seen}
 use Rattle.program.specs.Cells.{Sight, State}
 use Rattle.program.specs.Machine.{Config, act, saving}
+use Rattle.program.specs.Sound.{known, inside}
 
 -- what a pass sees
 abbrev pub seen : Seen → Sight
@@ -52,6 +55,18 @@ no_inputs = record { inputs = []; previous = [] }
 -- the machine after an instruction that leaves the stack alone and does not look at the inputs
 abbrev pub by_itself : Instruction → Cpu → Cpu
 by_itself x c = alone no_inputs x c
+
+-- The machine can make this step: the pass is not over, and the instruction may stand at its place in some code of the
+-- record.
+pub record CanMake (x : Instruction) (c : Cpu) : Type 0 where
+  pub live : c.over ≡ false
+  pub known : known x ≡ true
+  pub inside : inside 2048 c.place x ≡ true
+
+-- a stack over the same slots, by the same loan
+pub record SameSlots (old new : Stack Entry) : Type 0 where
+  pub room : room new ≡ room old
+  pub lender : lender new ≡ lender old
 
 -- before its first step, at this place
 abbrev pub fresh : List ℕ → List ℕ → ℕ → Cpu

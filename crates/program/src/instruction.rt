@@ -9,13 +9,6 @@ pub enum Source {
     Word(WordCell, bool),
 }
 
-// What the value of a bracket is for: it becomes OP, or the operator before the bracket takes it with the saved OP.
-#[derive(Clone, Copy, Debug, PartialEq, Eq)]
-pub enum Join {
-    Replace,
-    With(Operator),
-}
-
 // What a condition asks: a bit, tested for 0 where the flag is set, or OP compared with a value.
 #[derive(Clone, Copy, Debug, PartialEq, Eq)]
 pub enum Check {
@@ -23,13 +16,15 @@ pub enum Check {
     Compare(Comparison, Source),
 }
 
-// `Return` ends a module: `R`, `J0` or `J1`. A test that fails and a skip pass over as many instructions as they say.
+// `Return` ends a module: `R`, `J0` or `J1`. `Open` has the operator before the bracket, if there is one: it takes the
+// saved OP and the value of the bracket, which else becomes OP. A test that fails and a skip pass over as many
+// instructions as they say.
 #[derive(Clone, Copy, Debug, PartialEq, Eq)]
 pub enum Instruction {
     Return,
     Load(Source),
     Apply(Operator, Source),
-    Open(Join),
+    Open(Option<Operator>),
     Close,
     StoreBit(BitCell, bool),
     StoreWord(WordCell, bool),
@@ -39,9 +34,9 @@ pub enum Instruction {
     Call(u16),
 }
 
-// What lies on the stack: a place to go back to, or OP as it was saved at a bracket.
+// What lies on the stack: a place to go back to, or OP as it was saved at a bracket, with the operator before it.
 #[derive(Clone, Copy, Debug, PartialEq, Eq)]
 pub enum Entry {
     Back(u16),
-    Saved(u16, Join),
+    Saved(u16, Option<Operator>),
 }

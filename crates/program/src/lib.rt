@@ -2,7 +2,7 @@
 #![tactic(auto)]
 
 pub use cpu::Cpu;
-pub use record::Program;
+pub use record::{Program, Unsound};
 pub use sight::Sight;
 
 pub mod cpu;

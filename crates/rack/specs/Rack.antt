@@ -1,7 +1,7 @@
 -- What a rack means. Assumes nothing.
-use Rattle.std.specs.Prelude.{ℕ, ◌/◌, Bool, false, List, map, replicate, slice_index_or}
+use Rattle.std.specs.Prelude.{ℕ, ◌/◌, refl, Bool, false, List, map, replicate, slice_index_or}
 use Rattle.std.specs.List.{range_with_len}
-use Rattle.panel.specs.Meaning.{Meaning}
+use Rattle.panel.specs.Meaning.{Meaning, Sized}
 use Rattle.rack.specs.declared.boards.Rack.{Rack}
 
 -- words 2c and 2c + 1 are on card c
@@ -14,6 +14,15 @@ rack_meaning r = record {
   outputs = r.outputs;
   input_answers = on_cards r.cards;
   output_answers = on_cards r.cards;
+}
+
+-- a rack has eight words of each kind
+pub sized_rack : (r : Rack) → Sized (rack_meaning r)
+sized_rack r = record {
+  inputs_long = r.sized.0;
+  outputs_long = r.sized.1;
+  input_answers_long = refl;
+  output_answers_long = refl;
 }
 
 abbrev pub fresh : Meaning

@@ -83,7 +83,7 @@ count_step p ws n (Ok t) false q h at ih =
 
 placed_there : (p : Place) (r : Result Lexeme WordFault) (t : Item) → placed_at p r ≡ Ok t → t.place ≡ p
 placed_there p (Ok l) t e = let same : record { token = l; place = p } ≡ t = cc in ap (λ (x : Item). x.place) (sym same)
-placed_there p (Err f) t e = let z : ◌≡◌ {A = ℕ} 0 1 = cc in absurd (omega arith)
+placed_there p (Err f) t e = absurd (cc)
 
 counts : (ws : List Spot) (n : ℕ) → n ≤ most → outcome (noted_all (tally n None None) ws) ≡ capped_from n (judged ws)
 counts [] n h =

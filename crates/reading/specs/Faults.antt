@@ -1,8 +1,9 @@
 -- Number, layer and place of each fault of reading. Assumes nothing.
-use Rattle.std.specs.Prelude.{ℕ}
+use Rattle.std.specs.Prelude.{ℕ, refl}
 use Rattle.faults.specs.declared.Layer.{Layer}
 use Rattle.faults.specs.declared.Layer.TheVariants.{Reading}
 use Rattle.faults.specs.declared.Place.{Place}
+use Rattle.faults.specs.Layers.{CauseOfItsLayer}
 use Rattle.scanning.specs.declared.ScanFault.TheVariants.{TooLong, Byte, Unclosed}
 use Rattle.reading.specs.declared.ReadFault.{ReadFault}
 use Rattle.reading.specs.declared.ReadFault.TheVariants.{Scan, Unlisted, OutOfRange, TooMany}
@@ -29,3 +30,12 @@ place_of (Scan (Unclosed p)) = p
 place_of (Unlisted p) = p
 place_of (OutOfRange p) = p
 place_of (TooMany p) = p
+
+-- the causes are those of the reading layer
+pub causes_of_reading : CauseOfItsLayer cause_of layer_of
+causes_of_reading (Scan TooLong) = refl
+causes_of_reading (Scan (Byte p)) = refl
+causes_of_reading (Scan (Unclosed p)) = refl
+causes_of_reading (Unlisted p) = refl
+causes_of_reading (OutOfRange p) = refl
+causes_of_reading (TooMany p) = refl

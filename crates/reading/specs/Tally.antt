@@ -57,5 +57,6 @@ pub record FilledWith (ts : List Item) (new old : List Placed) (r : Result ℕ R
   pub left : Left new old r
 
 -- where the words of a text are the tokens ts, and the row has room for them
-abbrev pub Filled : List ℕ → List Placed → List Placed → Result ℕ ReadFault → Type 0
-Filled text new old r = (ts : List Item) → judged_all (scan_of text) ≡ Ok ts → length ts ≤ length old → FilledWith ts new old r
+abbrev pub Filled : List ℕ → List Placed → List Placed → Result (Unit {0}) ReadFault → Type 0
+Filled text new old r =
+    (ts : List Item) → judged_all (scan_of text) ≡ Ok ts → length ts ≤ length old → (r ≡ Ok tt) × FilledWith ts new old (Ok (length ts))

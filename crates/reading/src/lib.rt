@@ -3,14 +3,14 @@
 
 ghost use Rattle.std.specs.Prelude.{◌≡◌, ◌<◌, ◌≤◌, length};
 ghost use Rattle.scanning.specs.Scan.{scan_of};
-ghost use Rattle.reading.specs.Faults.{cause_of, layer_of, place_of};
-ghost use Rattle.reading.specs.Items.{item, shown, spot, token_at, blank_item, read_of, written, Left};
-ghost use Rattle.reading.specs.Tally.{refusal, fresh, noted, outcome, tallied, Filled};
+ghost use Rattle.reading.specs.Faults.{cause_of, layer_of, place_of, causes_of_reading};
+ghost use Rattle.reading.specs.Items.{item, fault_at, shown, spot, token_at, blank_item, read_of, written, Left};
+ghost use Rattle.reading.specs.Tally.{fresh, noted, outcome, tallied, Filled};
 ghost use Rattle.reading.specs.Layout.{AllInPlace};
 ghost use Rattle.reading.specs.Verdict.{Verdict, OneVerdict};
 ghost use Rattle.reading.specs.declared.ReadFault.TheVariants.{Scan};
 
-use faults::{Layer, Place};
+use faults::{Fault, Layer, Place};
 use scanning::{ScanFault, Scanner, Word};
 use tokens::{Token, WordFault, classify};
 
@@ -38,11 +38,18 @@ impl From<ScanFault> for ReadFault {
     }
 }
 
-impl ReadFault {
-    // The cause's number.
-    pub fn cause(self) -> u8
-        ensures { result ≡ cause_of self }
-    {
+impl Fault for ReadFault {
+    type Place = Place;
+
+    ghost cause_of = { cause_of };
+
+    ghost layer_of = { layer_of };
+
+    ghost place_of = { place_of };
+
+    ghost laws = { causes_of_reading };
+
+    fn cause(self) -> u8 {
         match self {
             ReadFault::Scan(ScanFault::TooLong) => 1,
             ReadFault::Scan(ScanFault::Byte(_)) => 2,
@@ -53,18 +60,13 @@ impl ReadFault {
         }
     }
 
-    // The layer that refuses.
-    pub fn layer(self) -> Layer
-        ensures { result ≡ layer_of self }
-    {
+    fn layer(self) -> Layer {
         Layer::Reading
     }
 
-    // Where the fault stands.
-    pub fn place(self) -> Place
-        ensures { result ≡ place_of self }
-    {
+    fn place(self) -> Place {
         match self {
+            // A place and no Option: the rules give 0, 0 to a text that is too long.
             ReadFault::Scan(ScanFault::TooLong) => Place { line: 0, column: 0 },
             ReadFault::Scan(ScanFault::Byte(place)) => place,
             ReadFault::Scan(ScanFault::Unclosed(place)) => place,
@@ -76,7 +78,7 @@ impl ReadFault {
 }
 
 impl<'a> Placed<'a> {
-    // An empty place, for memory that is handed to `read`.
+    // An empty slot, for memory that is handed to `read`.
     pub fn blank() -> Placed<'a>
         ensures { item result ≡ blank_item }
     {
@@ -87,70 +89,55 @@ impl<'a> Placed<'a> {
     }
 }
 
-// What is known of the words so far: how many there are, the first that is no token, and the first with no room.
-#[derive(Clone, Copy)]
-struct Tally {
-    count: usize,
-    refused: Option<ReadFault>,
-    extra: Option<Place>,
+// The fault of a word at `place` that is no token.
+fn fault_at(place: Place, fault: WordFault) -> ReadFault
+    ensures { result ≡ fault_at place fault }
+{
+    match fault {
+        WordFault::Unlisted => ReadFault::Unlisted(place),
+        WordFault::OutOfRange => ReadFault::OutOfRange(place),
+    }
 }
 
 // The token that a word is, at its place.
 fn token_of<'a>(word: Word<'a>) -> Result<Placed<'a>, ReadFault>
     ensures { shown result ≡ token_at (spot word.entry) }
 {
-    match classify(word.part) {
-        Ok(token) => Ok(Placed {
-            token,
-            place: word.place,
-        }),
-        Err(WordFault::Unlisted) => Err(ReadFault::Unlisted(word.place)),
-        Err(WordFault::OutOfRange) => Err(ReadFault::OutOfRange(word.place)),
-    }
+    let Word { part, place } = word;
+    let token = classify(part).map_err(|fault| fault_at(place, fault))?;
+    Ok(Placed { token, place })
 }
 
-// The fault of a word that is no token.
-fn fault_of(word: Word) -> Option<ReadFault>
-    ensures { result ≡ refusal (token_at (spot word.entry)) }
-{
-    match token_of(word) {
-        Ok(_) => None,
-        Err(e) => Some(e),
-    }
+// What is known of the words so far: how many there are, the first that is no token, and the first with no room.
+#[derive(Clone, Copy, Default)]
+struct Tally {
+    count: usize,
+    refused: Option<ReadFault>,
+    extra: Option<Place>,
 }
 
-// One word more.
-fn note(tally: Tally, word: Word) -> Tally
-    requires { tally.count < 16384 }
-    ensures { result ≡ noted tally (spot word.entry) }
-{
-    let fault = fault_of(word);
-    let refused = match tally.refused {
-        Some(e) => Some(e),
-        None => fault,
-    };
-    let extra = if tally.count == 2048 {
-        Some(word.place)
-    } else {
-        tally.extra
-    };
-    Tally {
-        count: tally.count + 1,
-        refused,
-        extra,
+impl Tally {
+    // One word more.
+    fn note(&mut self, word: Word)
+        requires { self.old.count < 16384 }
+        ensures { self.new ≡ noted self.old (spot word.entry) }
+    {
+        self.refused = self.refused.or(token_of(word).err());
+        if self.count == 2048 {
+            self.extra = Some(word.place);
+        }
+        self.count += 1;
     }
-}
 
-// What the tally says at the end of a text.
-fn conclude(tally: Tally) -> Result<usize, ReadFault>
-    ensures { result ≡ outcome tally }
-{
-    if let Some(e) = tally.refused {
-        return Err(e);
-    }
-    match tally.extra {
-        Some(place) => Err(ReadFault::TooMany(place)),
-        None => Ok(tally.count),
+    // What the tally says at the end of a text.
+    fn conclude(self) -> Result<usize, ReadFault>
+        ensures { result ≡ outcome self }
+    {
+        match (self.refused, self.extra) {
+            (Some(fault), _) => Err(fault),
+            (None, Some(place)) => Err(ReadFault::TooMany(place)),
+            (None, None) => Ok(self.count),
+        }
     }
 }
 
@@ -159,36 +146,30 @@ fn judge(text: &[u8]) -> Result<usize, ReadFault>
     ensures { result ≡ tallied fresh (scan_of text.now) }
 {
     let mut scanner = Scanner::new(text);
-    let mut tally = Tally {
-        count: 0,
-        refused: None,
-        extra: None,
-    };
+    let mut tally = Tally::default();
     while let Some(word) = scanner.next_word()? {
-        tally = note(tally, word);
+        tally.note(word);
     }
-    conclude(tally)
+    tally.conclude()
 }
 
-// Writes the tokens of a text, in their order, to the front of `memory`.
-fn fill<'a>(text: &'a [u8], memory: &mut [Placed<'a>]) -> Result<usize, ReadFault>
+// Writes the tokens of a text, in their order, to the front of `memory`, as far as there is room.
+fn fill<'a>(text: &'a [u8], memory: &mut [Placed<'a>]) -> Result<(), ReadFault>
     ensures { Filled text.now memory.new memory.old result }
 {
     let mut scanner = Scanner::new(text);
-    let mut n = 0;
-    while let Some(word) = scanner.next_word()? {
-        if n == memory.len() {
-            return Err(ReadFault::TooMany(word.place));
-        }
-        let placed = token_of(word)?;
-        memory[n] = placed;
-        n += 1;
+    for slot in memory.iter_mut() {
+        let Some(word) = scanner.next_word()? else {
+            return Ok(());
+        };
+        *slot = token_of(word)?;
     }
-    Ok(n)
+    Ok(())
 }
 
-// Reads a whole text into memory that is handed over: the tokens stand at its front, in their order, and what lies behind
-// them is as it was. The text is judged before anything is written, so a refusal leaves the memory as it was.
+// Reads a whole text into memory that is handed over, since this crate has no heap: the tokens stand at its front, in their
+// order, and what lies behind them is as it was. The text is judged before anything is written, so a refusal leaves the
+// memory as it was.
 pub fn read<'a>(text: &'a [u8], memory: &mut [Placed<'a>; 2048]) -> Result<usize, ReadFault>
     ensures is { written memory.new result ≡ read_of text.now }
     ensures left { Left memory.new memory.old result }
@@ -197,6 +178,7 @@ pub fn read<'a>(text: &'a [u8], memory: &mut [Placed<'a>; 2048]) -> Result<usize
     ensures one { OneVerdict text.now }
     ensures placed { AllInPlace text.now (written memory.new result) }
 {
-    judge(text)?;
-    fill(text, memory)
+    let count = judge(text)?;
+    fill(text, memory)?;
+    Ok(count)
 }

@@ -1,66 +1,59 @@
 -- Stores of both levels into one byte.
-use Rattle.std.proofs.Common.{◌≡◌, ℕ, ◌+◌, ◌<◌, ◌≤◌, Bool, true, false, ◌⊎◌, List, length, Decides, Option, sym, ap, ◌∙◌, subst, inl, inr, arith}
-use Rattle.std.proofs.lemmas.Bool.Decides.{not_from_Decides}
-use Rattle.tokens.specs.Tokens.{Kind}
-use Rattle.rules.specs.declared.roles.Role.{Role}
-use Rattle.rules.specs.declared.roles.Role.TheVariants.{Store}
+use Rattle.std.proofs.Common.{◌≡◌, ℕ, ◌+◌, ◌<◌, ◌≤◌, Bool, true, ◌⊎◌, List, length, take, None, Option, Decides, ◌↔◌, sym, ap, ◌∙◌, subst, inl, inr, arith}
+use Rattle.std.proofs.lemmas.List.{get_or-take, length-take-le}
+use Rattle.tokens.specs.Tokens.{Kind, bracket_opens}
+use Rattle.reading.specs.declared.Placed.{Placed}
+use Rattle.grammar.specs.Verdict.{kinds_of}
+use Rattle.rules.specs.declared.roles.Span.{Span}
 use Rattle.rules.specs.Labels.{kind_at}
-use Rattle.rules.specs.Levels.{home, Level}
+use Rattle.rules.specs.Levels.{home}
 use Rattle.rules.specs.Bytes.{Stores, Against, Clash}
-use Rattle.rules.specs.Tables.{role_of, Covers, CoversSome, Marks, lit, Meets}
-use Rattle.rules.proofs.Seen.{covers_role}
+use Rattle.rules.specs.Tables.{Within, Covers, StoresAmong, Marks, lit, Touches, Touched, Meets, MeetsEither}
+use Rattle.rules.proofs.Seen.{length_kinds, kinds_take}
 use Rattle.rules.proofs.Places.{inside}
+use Rattle.rules.proofs.Walks.{home-take}
 use Rattle.rules.proofs.Passes.{on_level}
 
--- bytes that the role covers are bytes that the token stores into
-pub covers_some : (k : Kind) (r : Role) (first last : ℕ) → r ≡ role_of k → CoversSome r first last → (b : ℕ) × (first ≤ b) × (b ≤ last) × Stores k b
-covers_some k r first last e p = (p.0, p.1, p.2, (covers_role k p.0).1 (subst (λ (x : Role). Covers x p.0) e p.3))
+-- the tokens up to i that store into one of the bytes
+touches_take : (ks : List Kind) (marks : List Bool) (bytes : Span) (n j : ℕ) → j < n → (Touches (take n ks) marks bytes j → Touches ks marks bytes j) × (Touches ks marks bytes j → Touches (take n ks) marks bytes j)
+touches_take ks marks bytes n j lt = (λ p. both (home-take ks n j (omega arith)) (get_or-take n ks j bracket_opens lt) p, λ p. both (sym (home-take ks n j (omega arith))) (sym (get_or-take n ks j bracket_opens lt)) p)
+  where
+    both : {h h' : Option ℕ} {k k' : Kind} → h ≡ h' → k ≡ k' → (lit marks h ≡ true) × StoresAmong k bytes → (lit marks h' ≡ true) × StoresAmong k' bytes
+    both e e' p = (subst (λ (h : Option ℕ). lit marks h ≡ true) e p.0, subst (λ (k : Kind). StoresAmong k bytes) e' p.1)
 
-pub some_covers : (k : Kind) (r : Role) (first last : ℕ) → r ≡ role_of k → ((b : ℕ) × (first ≤ b) × (b ≤ last) × Stores k b) → CoversSome r first last
-some_covers k r first last e p = (p.0, p.1, p.2, subst (λ (x : Role). Covers x p.0) (sym e) ((covers_role k p.0).0 p.3))
+module _ (ts : List Placed) (i : ℕ) (lt : i < length ts) where
+  size : length (kinds_of (take (i + 1) ts)) ≡ i + 1
+  size = length_kinds (take (i + 1) ts) ∙ length-take-le (i + 1) ts (omega arith)
 
-module _ (ks : List Kind) (slow quick : List Bool) (h : Option ℕ) (i first last : ℕ) (ds : Marks ks 0 slow) (dq : Marks ks 1 quick) (at : h ≡ home ks i) (is : Store first last ≡ role_of (kind_at ks i)) where
-  here : (b : ℕ) → first ≤ b → b ≤ last → Stores (kind_at ks i) b
-  here b lo hi = (covers_role (kind_at ks i) b).1 (subst (λ (x : Role). Covers x b) is (lo, hi))
+  touched_to : (marks : List Bool) (bytes : Span) → Touched (kinds_of (take (i + 1) ts)) marks bytes → (j : ℕ) × (j ≤ i) × Touches (kinds_of ts) marks bytes j
+  touched_to marks bytes p =
+      (p.0, omega (arith, p.1, size), (touches_take (kinds_of ts) marks bytes (i + 1) p.0 (omega (arith, p.1, size))).0 (subst (λ (ks : List Kind). Touches ks marks bytes p.0) (kinds_take (i + 1) ts) p.2))
 
-  among : (b : ℕ) → Stores (kind_at ks i) b → (first ≤ b) × (b ≤ last)
-  among b s = subst (λ (x : Role). Covers x b) (sym is) ((covers_role (kind_at ks i) b).0 s)
+  to_touched : (marks : List Bool) (bytes : Span) → (j : ℕ) × (j ≤ i) × Touches (kinds_of ts) marks bytes j → Touched (kinds_of (take (i + 1) ts)) marks bytes
+  to_touched marks bytes p =
+      (p.0, omega (arith, p.1, size), subst (λ (ks : List Kind). Touches ks marks bytes p.0) (sym (kinds_take (i + 1) ts)) ((touches_take (kinds_of ts) marks bytes (i + 1) p.0 (omega (arith, p.1))).1 p.2))
 
-  on : (root : ℕ) (marks : List Bool) → Marks ks root marks → lit marks h ≡ true → Level ks root i
-  on root marks d t = (on_level ks root marks d i).0 (ap (lit marks) (sym at) ∙ t)
+  module _ (h : Option ℕ) (at : h ≡ home (kinds_of ts) i) (bytes : Span) (stores : (b : ℕ) → Stores (kind_at (kinds_of ts) i) b ↔ Within bytes b) where
+    met : (one other : ℕ) (m n : List Bool) → Marks (kinds_of ts) one m → Marks (kinds_of ts) other n → Meets (kinds_of (take (i + 1) ts)) m n h bytes → (b : ℕ) × Against (kinds_of ts) one other b i
+    met one other m n d e p =
+        let t = touched_to n bytes p.1 in
+        let q = t.2.1 in
+        (q.0, (((stores q.0).1 q.1, (on_level (kinds_of ts) one m d i).0 (ap (lit m) (sym at) ∙ p.0)), (t.0, t.1, (q.2, (on_level (kinds_of ts) other n e t.0).0 t.2.0))))
 
-  off : (root : ℕ) (marks : List Bool) → Marks ks root marks → Level ks root i → lit marks h ≡ true
-  off root marks d l = ap (lit marks) at ∙ (on_level ks root marks d i).1 l
+    meet : (one other : ℕ) (m n : List Bool) → Marks (kinds_of ts) one m → Marks (kinds_of ts) other n → (b : ℕ) → Against (kinds_of ts) one other b i → Meets (kinds_of (take (i + 1) ts)) m n h bytes
+    meet one other m n d e b p =
+        (ap (lit m) at ∙ (on_level (kinds_of ts) one m d i).1 p.0.1, to_touched n bytes (p.1.0, p.1.1, ((on_level (kinds_of ts) other n e p.1.0).1 p.1.2.1, (b, (stores b).0 p.0.0, p.1.2.0))))
 
-  pub quick_clash : Meets ks quick slow h first last (i + 1) → Clash ks i
-  quick_clash m =
-      let p = m.1 in
-      let q = p.2.1 in
-      (q.0, inl ((here q.0 q.1 q.2, on 1 quick dq m.0), (p.0, omega (arith, p.1), (q.3, (on_level ks 0 slow ds p.0).0 p.2.0))))
+    -- the answer of the code
+    pub decides_clash : (slow quick : List Bool) → Marks (kinds_of ts) 0 slow → Marks (kinds_of ts) 1 quick → (r : Bool) → Decides r (MeetsEither (kinds_of (take (i + 1) ts)) slow quick h bytes) → Decides r (Clash (kinds_of ts) i)
+    decides_clash slow quick ds dq r d = (λ t. up (d.0 t), λ p. d.1 (down p))
+      where
+        up : MeetsEither (kinds_of (take (i + 1) ts)) slow quick h bytes → Clash (kinds_of ts) i
+        up (inl m) = let p = met 1 0 quick slow dq ds m in (p.0, inl p.1)
+        up (inr m) = let p = met 0 1 slow quick ds dq m in (p.0, inr p.1)
 
-  pub slow_clash : Meets ks slow quick h first last (i + 1) → Clash ks i
-  slow_clash m =
-      let p = m.1 in
-      let q = p.2.1 in
-      (q.0, inr ((here q.0 q.1 q.2, on 0 slow ds m.0), (p.0, omega (arith, p.1), (q.3, (on_level ks 1 quick dq p.0).0 p.2.0))))
-
-  pub clash_either : Clash ks i → Meets ks quick slow h first last (i + 1) ⊎ Meets ks slow quick h first last (i + 1)
-  clash_either p = go p.1
-    where
-      go : Against ks 1 0 p.0 i ⊎ Against ks 0 1 p.0 i → Meets ks quick slow h first last (i + 1) ⊎ Meets ks slow quick h first last (i + 1)
-      go (inl q) =
-          let w = among p.0 q.0.0 in
-          inl (off 1 quick dq q.0.1, (q.1.0, omega (arith, q.1.1), ((on_level ks 0 slow ds q.1.0).1 q.1.2.1, (p.0, w.0, w.1, q.1.2.0))))
-      go (inr q) =
-          let w = among p.0 q.0.0 in
-          inr (off 0 slow ds q.0.1, (q.1.0, omega (arith, q.1.1), ((on_level ks 1 quick dq q.1.0).1 q.1.2.1, (p.0, w.0, w.1, q.1.2.0))))
-
-  -- the answers of the code
-  pub decides_quick : (r : Bool) → Decides r (Meets ks quick slow h first last (i + 1)) → r ≡ true → Decides r (Clash ks i)
-  decides_quick r d t = (λ e. quick_clash (d.0 e), λ p. t)
-
-  pub decides_slow : (r r' : Bool) → Decides r (Meets ks quick slow h first last (i + 1)) → r ≡ false → Decides r' (Meets ks slow quick h first last (i + 1)) → Decides r' (Clash ks i)
-  decides_slow r r' d f d' = (λ e. slow_clash (d'.0 e), λ p. elim (clash_either p) [ inl m ↦ absurd (not_from_Decides r d f m) | inr m ↦ d'.1 m ])
+        down : Clash (kinds_of ts) i → MeetsEither (kinds_of (take (i + 1) ts)) slow quick h bytes
+        down p = elim p.1 [ inl q ↦ inl (meet 1 0 quick slow dq ds p.0 q) | inr q ↦ inr (meet 0 1 slow quick ds dq p.0 q) ]
 
 -- a place that clashes has a store
 pub clash_stores : (ks : List Kind) (i : ℕ) (p : Clash ks i) → Stores (kind_at ks i) p.0
@@ -69,6 +62,10 @@ clash_stores ks i p = go p.1
     go : Against ks 1 0 p.0 i ⊎ Against ks 0 1 p.0 i → Stores (kind_at ks i) p.0
     go (inl q) = q.0.0
     go (inr q) = q.0.0
+
+-- and where the token stores into no byte nothing clashes
+pub no_clash : (ks : List Kind) (i : ℕ) (k : Kind) (o : Option Span) → k ≡ kind_at ks i → ((b : ℕ) → Stores k b ↔ Covers o b) → o ≡ None → Clash ks i → ⊥
+no_clash ks i k o e stores none p = subst (λ (x : Option Span). Covers x p.0) none ((stores p.0).0 (subst (λ (x : Kind). Stores x p.0) (sym e) (clash_stores ks i p)))
 
 pub clash_inside : (ks : List Kind) (j : ℕ) → Clash ks j → j < length ks
 clash_inside ks j p = inside (λ (k : Kind). Stores k p.0) (λ s. s) ks j (clash_stores ks j p)

@@ -1,22 +1,23 @@
 -- Places of a text: labels, calls, and the module of a token.
-use Rattle.std.proofs.Common.{◌≡◌, ℕ, zero, suc, ◌+◌, ◌<◌, ◌≤◌, Bool, true, false, ◌⊎◌, List, length, Some, None, Decides, Option, sym, refl, ap, ◌∙◌, subst, inl, inr, add-one, arith, below_more}
-use Rattle.std.proofs.lemmas.Bool.{cases_lt, cases_eq}
-use Rattle.std.proofs.lemmas.List.{get_or_past}
-use Rattle.std.proofs.lemmas.Bool.Decides.{not_from_Decides}
-use Rattle.tokens.specs.Tokens.{Kind, bracket_opens, label, call}
+use Rattle.std.proofs.Common.{get_or, not, ◌≡◌, ℕ, zero, suc, ◌+◌, ◌-◌, ◌<◌, ◌≤◌, Bool, true, false, ◌⊎◌, List, length, take, drop, Some, None, Decides, Option, sym, refl, ap, ◌∙◌, subst, inl, inr, arith}
+use Rattle.std.specs.Option.{option_or}
+use Rattle.std.proofs.lemmas.Bool.{both_ways, cases_lt, cases_eq}
+use Rattle.std.proofs.lemmas.List.{get_or_past, get_or-take, get_or-drop, length-take-le, length-drop}
+use Rattle.tokens.specs.Tokens.{Kind, bracket_opens, label, call, lexeme}
 use Rattle.reading.specs.declared.Placed.{Placed}
-use Rattle.rules.specs.declared.roles.Role.{Role}
-use Rattle.rules.specs.declared.roles.Role.TheVariants.{Label, Call}
-use Rattle.rules.specs.Findings.{NoneAt, First}
-use Rattle.rules.specs.Labels.{kinds_of, kind_at, Labelled, Repeats, Unlinked}
+use Rattle.grammar.specs.Verdict.{kinds_of}
+use Rattle.rules.specs.Findings.{NoneAt, Found}
+use Rattle.rules.specs.Labels.{kind_at, Labelled, Repeats, Astray, Unlinked}
 use Rattle.rules.specs.Levels.{after, home}
 use Rattle.rules.specs.Laws.{CallsGoDown, CallsLand, LastLabel, HomeIsLastLabel}
-use Rattle.rules.specs.Tables.{role_of, lit}
-use Rattle.rules.proofs.Seen.{length_kinds, label_or_not}
+use Rattle.rules.proofs.Seen.{length_kinds, kinds_take, kinds_drop, kind_there, label_or_not}
 
 -- what brackets are not stands inside the text
 pub inside : (P : Kind → Type 0) → (P bracket_opens → ⊥) → (ks : List Kind) (j : ℕ) → P (kind_at ks j) → j < length ks
 inside P none ks j p = elim (cases_lt j (length ks)) [ inl h ↦ h | inr h ↦ absurd (none (subst P (get_or_past ks j bracket_opens h) p)) ]
+
+pub no_value : {n : ℕ} → None ≡ Some n → ⊥
+no_value e = let z : ◌≡◌ {A = ℕ} 0 1 = cc in omega arith
 
 pub no_label : {n : ℕ} → bracket_opens ≡ label n → ⊥
 no_label e = let z : ◌≡◌ {A = ℕ} 0 1 = cc in omega arith
@@ -30,53 +31,92 @@ label_inside ks j n e = inside (λ (k : Kind). k ≡ label n) no_label ks j e
 pub call_inside : (ks : List Kind) (j n : ℕ) → kind_at ks j ≡ call n → j < length ks
 call_inside ks j n e = inside (λ (k : Kind). k ≡ call n) no_call ks j e
 
--- a search over all tokens that finds nothing; nothing behind the text is at fault
-pub nowhere : (ts : List Placed) (P : ℕ → Type 0) (i : ℕ) → length ts ≤ i → ((j : ℕ) → P j → j < length (kinds_of ts)) → ((j : ℕ) → j < i → P j → ⊥) → NoneAt P
-nowhere ts P i le within below j p = let lt = within j p in below j (omega (arith, length_kinds ts)) p
-
--- a place whose role is not that of a label has none, and so for calls
-pub other_label : (k : Kind) (r : Role) → r ≡ role_of k → ((n : ℕ) → r ≡ Label n → ⊥) → (n : ℕ) → k ≡ label n → ⊥
-other_label k r e none n is = none n (e ∙ ap role_of is)
-
-pub other_call : (k : Kind) (r : Role) → r ≡ role_of k → ((n : ℕ) → r ≡ Call n → ⊥) → (n : ℕ) → k ≡ call n → ⊥
-other_call k r e none n is = none n (e ∙ ap role_of is)
-
 pub same_label : (k : Kind) (m n : ℕ) → k ≡ label m → k ≡ label n → m ≡ n
 same_label k m n e e' = cc
 
--- cause 9 at a place
-pub not_again : (ks : List Kind) (i n : ℕ) (r : Bool) → kind_at ks i ≡ label n → Decides r (Labelled ks n 0 i) → r ≡ false → Repeats ks i → ⊥
-not_again ks i n r e d f p = let same : p.0 ≡ n = cc p.1 in not_from_Decides r d f (subst (λ (k : ℕ). Labelled ks k 0 i) same p.2)
+-- the labels of a part of the text
+pub labelled_before : (ts : List Placed) (n i : ℕ) (r : Bool) → i ≤ length ts → Decides r (Labelled (kinds_of (take i ts)) n 0 (length (kinds_of (take i ts)))) → Decides r (Labelled (kinds_of ts) n 0 i)
+labelled_before ts n i r le d = (λ t. up (d.0 t), λ l. d.1 (down l))
+  where
+    size : length (kinds_of (take i ts)) ≡ i
+    size = length_kinds (take i ts) ∙ length-take-le i ts le
 
+    same : (k : ℕ) → k < i → kind_at (kinds_of (take i ts)) k ≡ kind_at (kinds_of ts) k
+    same k lt = ap (λ ks. kind_at ks k) (kinds_take i ts) ∙ get_or-take i (kinds_of ts) k bracket_opens lt
+
+    up : Labelled (kinds_of (take i ts)) n 0 (length (kinds_of (take i ts))) → Labelled (kinds_of ts) n 0 i
+    up l = let lt : l.0 < i = omega (arith, l.2, size) in (l.0, l.1, lt, sym (same l.0 lt) ∙ l.3)
+
+    down : Labelled (kinds_of ts) n 0 i → Labelled (kinds_of (take i ts)) n 0 (length (kinds_of (take i ts)))
+    down l = (l.0, l.1, omega (arith, l.2, size), same l.0 l.2 ∙ l.3)
+
+pub labelled_behind : (ts : List Placed) (n i : ℕ) (r : Bool) → i ≤ length ts → Decides r (Labelled (kinds_of (drop i ts)) n 0 (length (kinds_of (drop i ts)))) → Decides r (Labelled (kinds_of ts) n i (length (kinds_of ts)))
+labelled_behind ts n i r le d = (λ t. up (d.0 t), λ l. d.1 (down l))
+  where
+    size : length (kinds_of (drop i ts)) ≡ length (kinds_of ts) - i
+    size = omega (arith, length_kinds (drop i ts), length_kinds ts, length-drop i ts)
+
+    same : (k : ℕ) → kind_at (kinds_of (drop i ts)) k ≡ kind_at (kinds_of ts) (i + k)
+    same k = ap (λ ks. kind_at ks k) (kinds_drop i ts) ∙ get_or-drop i (kinds_of ts) k bracket_opens
+
+    up : Labelled (kinds_of (drop i ts)) n 0 (length (kinds_of (drop i ts))) → Labelled (kinds_of ts) n i (length (kinds_of ts))
+    up l = (i + l.0, omega arith, omega (arith, l.2, size), sym (same l.0) ∙ l.3)
+
+    down : Labelled (kinds_of ts) n i (length (kinds_of ts)) → Labelled (kinds_of (drop i ts)) n 0 (length (kinds_of (drop i ts)))
+    down l =
+        let e : i + (l.0 - i) ≡ l.0 = omega (arith, l.1) in
+        (l.0 - i, omega arith, omega (arith, l.1, l.2, size), same (l.0 - i) ∙ ap (kind_at (kinds_of ts)) e ∙ l.3)
+
+-- cause 9 at a place
 pub repeats_inside : (ks : List Kind) (j : ℕ) → Repeats ks j → j < length ks
 repeats_inside ks j p = label_inside ks j p.0 p.1
 
+pub repeats_if : (ts : List Placed) (i n : ℕ) (d : Placed) (r : Bool) → i < length ts → (lexeme (get_or ts i d).token).kind ≡ label n → Decides r (Labelled (kinds_of (take i ts)) n 0 (length (kinds_of (take i ts)))) → Decides r (Repeats (kinds_of ts) i)
+repeats_if ts i n d r lt e l =
+    let e' : kind_at (kinds_of ts) i ≡ label n = sym (kind_there ts i d lt) ∙ e in
+    let l' = labelled_before ts n i r (omega arith) l in
+    (λ t. (n, e', l'.0 t), λ p. let s : p.0 ≡ n = cc p.1 in l'.1 (subst (λ (k : ℕ). Labelled (kinds_of ts) k 0 i) s p.2))
+
 -- cause 10 at a place
-module _ (ts : List Placed) where
-  pub to_end : (r : Bool) (n from : ℕ) → Decides r (Labelled (kinds_of ts) n from (length ts)) → Decides r (Labelled (kinds_of ts) n from (length (kinds_of ts)))
-  to_end r n from d = subst (λ (l : ℕ). Decides r (Labelled (kinds_of ts) n from l)) (sym (length_kinds ts)) d
+pub astray_if : (ts : List Placed) (i n : ℕ) (d : Placed) (r : Bool) → i < length ts → (lexeme (get_or ts i d).token).kind ≡ call n → Decides r (Labelled (kinds_of (drop (i + 1) ts)) n 0 (length (kinds_of (drop (i + 1) ts)))) → Decides (not r) (Astray (kinds_of ts) i)
+astray_if ts i n d r lt e l = go r (labelled_behind ts n (i + 1) r (omega arith) l)
+  where
+    e' : kind_at (kinds_of ts) i ≡ call n
+    e' = sym (kind_there ts i d lt) ∙ e
 
-  pub astray : (i n : ℕ) (r : Bool) → kind_at (kinds_of ts) i ≡ call n → Decides r (Labelled (kinds_of ts) n (i + 1) (length ts)) → r ≡ false → Unlinked (kinds_of ts) i
-  astray i n r e d f = inl (n, e, not_from_Decides r (to_end r n (i + 1) d) f)
+    go : (r' : Bool) → Decides r' (Labelled (kinds_of ts) n (i + 1) (length (kinds_of ts))) → Decides (not r') (Astray (kinds_of ts) i)
+    go true l' = (λ t. absurd (both_ways _ refl t), λ p. absurd (let s : n ≡ p.0 = cc (e', p.1) in p.2 (subst (λ (k : ℕ). Labelled (kinds_of ts) k (i + 1) (length (kinds_of ts))) s (l'.0 refl))))
+    go false l' = (λ t. (n, e', λ k. both_ways _ refl (l'.1 k)), λ p. refl)
 
-  pub not_astray : (i n : ℕ) (r : Bool) → i < length ts → kind_at (kinds_of ts) i ≡ call n → Decides r (Labelled (kinds_of ts) n (i + 1) (length ts)) → r ≡ true → Unlinked (kinds_of ts) i → ⊥
-  not_astray i n r lt e d t (inl p) = let same : n ≡ p.0 = cc p.1 in p.2 (subst (λ (k : ℕ). Labelled (kinds_of ts) k (i + 1) (length (kinds_of ts))) same ((to_end r n (i + 1) d).0 t))
-  not_astray i n r lt e d t (inr p) = absurd (omega (arith, p.0, length_kinds ts))
+pub astray_inside : (ks : List Kind) (j : ℕ) → Astray ks j → j < length ks
+astray_inside ks j p = call_inside ks j p.0 p.1
 
-  pub not_called : (i : ℕ) → i < length ts → ((n : ℕ) → kind_at (kinds_of ts) i ≡ call n → ⊥) → Unlinked (kinds_of ts) i → ⊥
-  not_called i lt none (inl p) = none p.0 p.1
-  not_called i lt none (inr p) = absurd (omega (arith, p.0, length_kinds ts))
+module _ (ks : List Kind) where
+  -- where both roots are there
+  pub linked : (r : Option ℕ) → Labelled ks 0 0 (length ks) → Labelled ks 1 0 (length ks) → Found (Astray ks) r → Found (Unlinked ks) r
+  linked None l₀ l₁ f = none
+    where
+      none : NoneAt (Unlinked ks)
+      none j (inl p) = f j p
+      none j (inr p) = p.1 (l₀, l₁)
+  linked (Some i) l₀ l₁ f = (inl f.0, early)
+    where
+      early : (j : ℕ) → j < i → Unlinked ks j → ⊥
+      early j lt (inl p) = f.1 j lt p
+      early j lt (inr p) = p.1 (l₀, l₁)
 
-  module _ (r₀ r₁ : Bool) (d₀ : Decides r₀ (Labelled (kinds_of ts) 0 0 (length ts))) (d₁ : Decides r₁ (Labelled (kinds_of ts) 1 0 (length ts))) where
-    pub linked : (i : ℕ) → length ts ≤ i → r₀ ≡ true → r₁ ≡ true → ((j : ℕ) → j < i → Unlinked (kinds_of ts) j → ⊥) → NoneAt (Unlinked (kinds_of ts))
-    linked i le t₀ t₁ below j (inl p) = let lt = call_inside (kinds_of ts) j p.0 p.1 in below j (omega (arith, length_kinds ts)) (inl p)
-    linked i le t₀ t₁ below j (inr p) = p.1 ((to_end r₀ 0 0 d₀).0 t₀, (to_end r₁ 1 0 d₁).0 t₁)
-
-  pub rootless : (i : ℕ) → length ts ≤ i → (Labelled (kinds_of ts) 0 0 (length ts) × Labelled (kinds_of ts) 1 0 (length ts) → ⊥) → ((j : ℕ) → j < i → Unlinked (kinds_of ts) j → ⊥) → First (Unlinked (kinds_of ts)) (length ts)
-  rootless i le lacks below = (
-    inr (sym (length_kinds ts), subst (λ (l : ℕ). Labelled (kinds_of ts) 0 0 l × Labelled (kinds_of ts) 1 0 l → ⊥) (sym (length_kinds ts)) lacks),
-    λ j lt u. below j (omega arith) u,
-  )
+  -- where one is missing
+  pub rootless : (r : Option ℕ) → (Labelled ks 0 0 (length ks) × Labelled ks 1 0 (length ks) → ⊥) → Found (Astray ks) r → Found (Unlinked ks) (option_or r (Some (length ks)))
+  rootless None lacks f = (inr (refl, lacks), early)
+    where
+      early : (j : ℕ) → j < length ks → Unlinked ks j → ⊥
+      early j lt (inl p) = f j p
+      early j lt (inr p) = omega (arith, p.0)
+  rootless (Some i) lacks f = (inl f.0, early)
+    where
+      early : (j : ℕ) → j < i → Unlinked ks j → ⊥
+      early j lt (inl p) = f.1 j lt p
+      early j lt (inr p) = let in' = astray_inside ks i f.0 in omega (arith, p.0)
 
 -- causes 9 and 10 together
 pub downward : CallsGoDown
@@ -87,20 +127,14 @@ downward ks once linked i k b e e' =
     ]
 
 -- the module of a token
-pub home_more : (ks : List Kind) (i : ℕ) (h h' : Option ℕ) → h ≡ home ks i → h' ≡ after (kind_at ks i) h → h' ≡ home ks (i + 1)
-home_more ks i h h' e e' = e' ∙ ap (after (kind_at ks i)) e ∙ ap (home ks) (sym (add-one i))
-
 pub after_other : (k : Kind) (h : Option ℕ) → ((n : ℕ) → k ≡ label n → ⊥) → h ≡ after k h
 after_other k h none = elim (label_or_not k) [ inl p ↦ absurd (none p.0 p.1) | inr q ↦ sym (q h) ]
 
 pub after_label : (k : Kind) (h : Option ℕ) (n : ℕ) → k ≡ label n → Some n ≡ after k h
 after_label k h n e = sym (ap (λ (x : Kind). after x h) e)
 
-no_home : {m : ℕ} → None ≡ Some m → ⊥
-no_home e = let z : ◌≡◌ {A = ℕ} 0 1 = cc in omega arith
-
 home_last : (ks : List Kind) (i m : ℕ) → home ks i ≡ Some m → LastLabel ks i m
-home_last ks zero m e = absurd (no_home e)
+home_last ks zero m e = absurd (no_value e)
 home_last ks (suc i) m e = go (label_or_not (kind_at ks i)) (home_last ks i m)
   where
     go : ((n : ℕ) × (kind_at ks i ≡ label n)) ⊎ ((h : Option ℕ) → after (kind_at ks i) h ≡ h) → (home ks i ≡ Some m → LastLabel ks i m) → LastLabel ks (suc i) m
@@ -121,7 +155,7 @@ home_last ks (suc i) m e = go (label_or_not (kind_at ks i)) (home_last ks i m)
         }
       where
         other : {n : ℕ} → kind_at ks i ≡ label n → ⊥
-        other {n} f = no_home (sym (after_label (kind_at ks i) None n f ∙ q None))
+        other {n} f = no_value (sym (after_label (kind_at ks i) None n f ∙ q None))
 
 last_home : (ks : List Kind) (i m : ℕ) → LastLabel ks i m → home ks i ≡ Some m
 last_home ks zero m l = absurd (omega (arith, l.before))
@@ -143,7 +177,7 @@ label_here : (k : Kind) (n : ℕ) → (k ≡ label n) ⊎ (k ≡ label n → ⊥
 label_here k n =
     elim (label_or_not k) [
       | inl p ↦ elim (cases_eq p.0 n) [ inl e ↦ inl (p.1 ∙ ap label e) | inr ne ↦ inr (λ e. ne (same_label k p.0 n p.1 e)) ]
-      | inr q ↦ inr (λ e. no_home (sym (after_label k None n e ∙ q None)))
+      | inr q ↦ inr (λ e. no_value (sym (after_label k None n e ∙ q None)))
     ]
 
 pub labelled_or_not : (ks : List Kind) (n from to : ℕ) → Labelled ks n from to ⊎ (Labelled ks n from to → ⊥)
@@ -168,18 +202,3 @@ calls_land ks linked = (
   where
     stands : (n from : ℕ) → ((Labelled ks n from (length ks) → ⊥) → ⊥) → Labelled ks n from (length ks)
     stands n from not-missing = elim (labelled_or_not ks n from (length ks)) [ inl l ↦ l | inr none ↦ absurd (not-missing none) ]
-
--- what a test of the marks says of the token's module
-pub lit_at : (ks : List Kind) (i : ℕ) (marks : List Bool) (h : Option ℕ) (r b : Bool) → h ≡ home ks i → r ≡ lit marks h → r ≡ b → lit marks (home ks i) ≡ b
-lit_at ks i marks h r b e e' t = ap (lit marks) (sym e) ∙ sym e' ∙ t
-
--- a sweep that looks for a fault: the module of the next token, and that no place so far is at fault
-pub record Swept (P : ℕ → Type 0) (ks : List Kind) (i : ℕ) (h : Option ℕ) : Type 0 where
-  pub at : h ≡ home ks i
-  pub clear : (j : ℕ) → j < i → P j → ⊥
-
-pub sweeps : {P : ℕ → Type 0} {ks : List Kind} {i : ℕ} {h h' : Option ℕ} → Swept P ks i h → h' ≡ after (kind_at ks i) h → (P i → ⊥) → Swept P ks (i + 1) h'
-sweeps {P} {ks} {i} {h} {h'} s e n = record { at = home_more ks i h h' s.at e; clear = below_more (λ j. P j → ⊥) i s.clear n }
-
-pub swept_lit : {P : ℕ → Type 0} {ks : List Kind} {i : ℕ} {h : Option ℕ} → Swept P ks i h → (marks : List Bool) {r b : Bool} → r ≡ lit marks h → r ≡ b → lit marks (home ks i) ≡ b
-swept_lit {P} {ks} {i} {h} s marks {r} {b} e t = lit_at ks i marks h r b s.at e t

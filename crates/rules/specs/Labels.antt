@@ -1,13 +1,6 @@
 -- Labels and calls, by places in the kinds of a text's tokens: causes 9 and 10. Assumes nothing.
-use Rattle.std.specs.Prelude.{◌≡◌, ℕ, ◌+◌, ◌<◌, ◌≤◌, ◌⊎◌, List, map, length, slice_index_or}
+use Rattle.std.specs.Prelude.{◌≡◌, ℕ, ◌+◌, ◌<◌, ◌≤◌, ◌⊎◌, List, length, slice_index_or}
 use Rattle.tokens.specs.Tokens.{Kind, bracket_opens, label, call}
-use Rattle.reading.specs.declared.Placed.{Placed}
-use Rattle.reading.specs.Items.{item}
-use Rattle.grammar.specs.Verdict.{kinds}
-
--- the kinds of tokens that are placed
-abbrev pub kinds_of : List Placed → List Kind
-kinds_of ts = kinds (map item ts)
 
 -- what stands at i; past the end only brackets, which mean nothing here
 abbrev pub kind_at : List Kind → ℕ → Kind

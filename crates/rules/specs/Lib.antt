@@ -4,3 +4,4 @@ pub mod Levels
 pub mod Bytes
 pub mod Laws
 pub mod Tables
+pub mod Walk

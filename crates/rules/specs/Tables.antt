@@ -1,61 +1,36 @@
 -- What the code sees in a token, and what its tables say.
-use Rattle.std.specs.Prelude.{◌≡◌, ℕ, ◌+◌, ◌<◌, ◌≤◌, Bool, true, false, cond, List, [], ◌∷◌, Some, None, Decides, Option, slice_index_or}
+use Rattle.std.specs.Prelude.{◌≡◌, ℕ, ◌+◌, ◌<◌, ◌≤◌, ◌⊎◌, Bool, true, false, cond, List, [], ◌∷◌, length, Some, None, Decides, Option, slice_index_or}
 use Rattle.tokens.specs.declared.Area.{Area}
 use Rattle.tokens.specs.declared.Area.TheVariants.{Input, Output, Change, Internal}
-use Rattle.tokens.specs.declared.WordCell.TheVariants.{Pair, Timer}
-use Rattle.tokens.specs.Tokens.{Kind, bracket_opens, bracket_closes, number, load_number, load_bit, load_word, store_bit, store_word, switch, test, operator, comparison, otherwise, end_of_condition, end_of_level, return, label, call}
-use Rattle.rules.specs.declared.roles.Role.{Role}
-use Rattle.rules.specs.declared.roles.Role.TheVariants.{Plain, Label, Call, LevelOne, Store}
+use Rattle.tokens.specs.Tokens.{Kind}
+use Rattle.rules.specs.declared.roles.Span.{Span}
 use Rattle.rules.specs.Labels.{kind_at}
 use Rattle.rules.specs.Levels.{home, Calls, Reaches}
 use Rattle.rules.specs.Bytes.{Stores}
 
-abbrev pub referred : Area → Role
-referred Input = Plain
-referred Output = Plain
-referred Change = LevelOne
-referred Internal = Plain
+-- byte e of an area and `more` behind it, where tokens store there
+abbrev pub span : Area → ℕ → ℕ → Option Span
+span Input e more = None
+span Output e more = Some (record { first = 128 + e; last = 128 + e + more })
+span Change e more = None
+span Internal e more = Some (record { first = e; last = e + more })
 
--- a store into byte e of an area and `more` behind it
-abbrev pub span : Area → ℕ → ℕ → Role
-span Input e more = Plain
-span Output e more = Store (128 + e) (128 + e + more)
-span Change e more = Plain
-span Internal e more = Store e (e + more)
+-- byte b lies in a span
+abbrev pub Within : Span → ℕ → Type 0
+Within s b = (s.first ≤ b) × (b ≤ s.last)
 
-abbrev pub role_of : Kind → Role
-role_of bracket_opens = Plain
-role_of bracket_closes = Plain
-role_of (number v) = Plain
-role_of (load_number v) = Plain
-role_of (load_bit c n) = referred c.area
-role_of (load_word (Pair a e) n) = referred a
-role_of (load_word (Timer t) n) = Plain
-role_of (store_bit c n) = span c.area c.byte 0
-role_of (store_word (Pair a e) n) = span a e 1
-role_of (store_word (Timer t) n) = LevelOne
-role_of (switch c on) = span c.area c.byte 0
-role_of (test c n) = referred c.area
-role_of (operator o) = Plain
-role_of (comparison o) = Plain
-role_of otherwise = Plain
-role_of end_of_condition = Plain
-role_of (end_of_level v) = Plain
-role_of return = Plain
-role_of (label n) = Label n
-role_of (call n) = Call n
+-- byte b is among those that are stored into
+abbrev pub Covers : Option Span → ℕ → Type 0
+Covers None b = ⊥
+Covers (Some s) b = Within s b
 
--- a token with this role stores into byte b
-abbrev pub Covers : Role → ℕ → Type 0
-Covers Plain b = ⊥
-Covers (Label n) b = ⊥
-Covers (Call n) b = ⊥
-Covers LevelOne b = ⊥
-Covers (Store first last) b = (first ≤ b) × (b ≤ last)
+-- a byte lies in both
+abbrev pub Overlap : Span → Span → Type 0
+Overlap s t = (b : ℕ) × Within s b × Within t b
 
--- and into one of the bytes from `first` to `last`
-abbrev pub CoversSome : Role → ℕ → ℕ → Type 0
-CoversSome r first last = (b : ℕ) × (first ≤ b) × (b ≤ last) × Covers r b
+-- a token stores into one of the bytes
+abbrev pub StoresAmong : Kind → Span → Type 0
+StoresAmong k bytes = (b : ℕ) × Within bytes b × Stores k b
 
 -- n is marked
 abbrev pub On : List Bool → ℕ → Type 0
@@ -70,17 +45,21 @@ abbrev pub lit : List Bool → Option ℕ → Bool
 lit marks None = false
 lit marks (Some m) = slice_index_or marks m false
 
--- the token at j, in a marked module, stores into one of the bytes from `first` to `last`
-abbrev pub Touches : List Kind → List Bool → ℕ → ℕ → ℕ → Type 0
-Touches ks marks first last j = (lit marks (home ks j) ≡ true) × ((b : ℕ) × (first ≤ b) × (b ≤ last) × Stores (kind_at ks j) b)
+-- the token at j, in a marked module, stores into one of the bytes
+abbrev pub Touches : List Kind → List Bool → Span → ℕ → Type 0
+Touches ks marks bytes j = (lit marks (home ks j) ≡ true) × StoresAmong (kind_at ks j) bytes
 
--- some token before `to` does
-abbrev pub Touched : List Kind → List Bool → ℕ → ℕ → ℕ → Type 0
-Touched ks marks first last to = (j : ℕ) × (j < to) × Touches ks marks first last j
+-- some token does
+abbrev pub Touched : List Kind → List Bool → Span → Type 0
+Touched ks marks bytes = (j : ℕ) × (j < length ks) × Touches ks marks bytes j
 
--- module h is marked in one table, and some token before `to` does so by the other
-abbrev pub Meets : List Kind → List Bool → List Bool → Option ℕ → ℕ → ℕ → ℕ → Type 0
-Meets ks one other h first last to = (lit one h ≡ true) × Touched ks other first last to
+-- module h is marked in one table, and some token stores into one of the bytes by the other
+abbrev pub Meets : List Kind → List Bool → List Bool → Option ℕ → Span → Type 0
+Meets ks one other h bytes = (lit one h ≡ true) × Touched ks other bytes
+
+-- the same, whichever of the two levels the module is on
+abbrev pub MeetsEither : List Kind → List Bool → List Bool → Option ℕ → Span → Type 0
+MeetsEither ks slow quick h bytes = Meets ks quick slow h bytes ⊎ Meets ks slow quick h bytes
 
 -- how many places are not marked
 abbrev pub unmarked : List Bool → ℕ

@@ -2,32 +2,27 @@
 // text, in whatever order.
 #![tactic(auto)]
 
-ghost use Rattle.std.specs.Prelude.{◌≡◌, ◌<◌, ◌≤◌, length, Decides};
+ghost use Rattle.std.specs.Prelude.{◌≡◌, ◌<◌, length, Decides};
+ghost use Rattle.grammar.specs.Verdict.{kinds_of};
 ghost use Rattle.rules.specs.Findings.{Found, OneFinding};
-ghost use Rattle.rules.specs.Labels.{kinds_of, kind_at, IsLabel, Labelled, Repeats, Unlinked};
-ghost use Rattle.rules.specs.Levels.{after, home, Misplaced};
+ghost use Rattle.rules.specs.Labels.{IsLabel, Labelled, Repeats, Astray, Unlinked};
+ghost use Rattle.rules.specs.Levels.{Misplaced, home};
 ghost use Rattle.rules.specs.Bytes.{Clash};
 ghost use Rattle.rules.specs.Laws.{CallsGoDown, CallsLand, HomeIsLastLabel};
-ghost use Rattle.rules.specs.Tables.{lit, Marks, Spread, Touched, Meets};
+ghost use Rattle.rules.specs.Tables.{Marks, Spread, Touched, MeetsEither};
 
+mod modules;
 mod roles;
 
-use crate::roles::{Role, role_at};
+use crate::modules::{ModuleSet, Walk};
+use crate::roles::{Span, callee_of, is_for_level_one, label_of, stored_by, stores_among};
 use reading::Placed;
 
-// Whether label n stands at a place from `from` on and before `to`.
-fn labelled(tokens: &[Placed], n: u8, from: usize, to: usize) -> bool
-    requires { to ≤ length tokens.now }
-    ensures { Decides result (Labelled (kinds_of tokens.now) n from to) }
+// Whether label n stands among the tokens.
+fn has_label(tokens: &[Placed], n: u8) -> bool
+    ensures { Decides result (Labelled (kinds_of tokens.now) n 0 (length (kinds_of tokens.now))) }
 {
-    for k in from..to {
-        if let Role::Label(m) = role_at(tokens, k) {
-            if m == n {
-                return true;
-            }
-        }
-    }
-    false
+    tokens.iter().any(|placed| placed.token.is_label(n))
 }
 
 // The first place of label n.
@@ -35,14 +30,19 @@ pub fn find_label(tokens: &[Placed], n: u8) -> Option<usize>
     ensures first { Found (IsLabel (kinds_of tokens.now) n) result }
     ensures one { OneFinding (IsLabel (kinds_of tokens.now) n) }
 {
-    for i in 0..tokens.len() {
-        if let Role::Label(found) = role_at(tokens, i) {
-            if found == n {
-                return Some(i);
-            }
-        }
+    tokens.iter().position(|placed| placed.token.is_label(n))
+}
+
+// Whether the token at `i` is a label that stands further up too. A match and not `is_some_and`: the contract that is
+// inferred of a closure around `has_label` is empty.
+fn repeats(tokens: &[Placed], i: usize) -> bool
+    requires { i < length tokens.now }
+    ensures { Decides result (Repeats (kinds_of tokens.now) i) }
+{
+    match label_of(&tokens[i].token) {
+        Some(n) => has_label(&tokens[..i], n),
+        None => false,
     }
-    None
 }
 
 // Cause 9: the first label that stands further up too.
@@ -50,14 +50,25 @@ pub fn repeated_label(tokens: &[Placed]) -> Option<usize>
     ensures first { Found (Repeats (kinds_of tokens.now)) result }
     ensures one { OneFinding (Repeats (kinds_of tokens.now)) }
 {
-    for i in 0..tokens.len() {
-        if let Role::Label(n) = role_at(tokens, i) {
-            if labelled(tokens, n, 0, i) {
-                return Some(i);
-            }
-        }
+    (0..tokens.len()).find(|&i| repeats(tokens, i))
+}
+
+// Whether the token at `i` is a call with no label further down. A match, as in `repeats`.
+fn is_astray(tokens: &[Placed], i: usize) -> bool
+    requires { i < length tokens.now }
+    ensures { Decides result (Astray (kinds_of tokens.now) i) }
+{
+    match callee_of(&tokens[i].token) {
+        Some(n) => !has_label(&tokens[i + 1..], n),
+        None => false,
     }
-    None
+}
+
+// The first call with no label further down.
+fn first_astray(tokens: &[Placed]) -> Option<usize>
+    ensures { Found (Astray (kinds_of tokens.now)) result }
+{
+    (0..tokens.len()).find(|&i| is_astray(tokens, i))
 }
 
 // Cause 10: the first call with no label further down, or the end where label 0 or 1 is missing.
@@ -67,67 +78,43 @@ pub fn unlinked(tokens: &[Placed]) -> Option<usize>
     ensures land { CallsLand }
     ensures down { CallsGoDown }
 {
-    for i in 0..tokens.len() {
-        if let Role::Call(n) = role_at(tokens, i) {
-            if !labelled(tokens, n, i + 1, tokens.len()) {
-                return Some(i);
-            }
-        }
-    }
-    if labelled(tokens, 0, 0, tokens.len()) && labelled(tokens, 1, 0, tokens.len()) {
-        None
+    let astray = first_astray(tokens);
+    if has_label(tokens, 0) && has_label(tokens, 1) {
+        astray
     } else {
-        Some(tokens.len())
+        astray.or(Some(tokens.len()))
     }
 }
 
-// The module behind the token at `i`, where `within` is the one that it stands in.
-fn home_after(tokens: &[Placed], i: usize, within: Option<u8>) -> Option<u8>
-    requires { i < length tokens.now }
-    ensures { result ≡ after (kind_at (kinds_of tokens.now) i) within }
+// Goes once through the text and adds the modules that modules of the set call. Says whether there was a new one.
+fn spread(tokens: &[Placed], set: &mut ModuleSet) -> bool
+    ensures { Spread (kinds_of tokens.now) set.old.marks set.new.marks result }
 {
-    match role_at(tokens, i) {
-        Role::Label(n) => Some(n),
-        _ => within,
-    }
-}
-
-// Whether a module is marked in a table; where there is none, it is not.
-fn is_lit(marks: &[bool; 256], within: Option<u8>) -> bool
-    ensures { result ≡ lit marks.now within }
-{
-    match within {
-        Some(n) => marks[n as usize],
-        None => false,
-    }
-}
-
-// Goes once through the text and marks what marked modules call. Says whether there was a new one.
-fn spread(tokens: &[Placed], marks: &mut [bool; 256]) -> bool
-    ensures { Spread (kinds_of tokens.now) marks.old marks.new result }
-{
-    let mut more = false;
-    let mut within: Option<u8> = None;
-    for i in 0..tokens.len() {
-        if let Role::Call(n) = role_at(tokens, i) {
-            if is_lit(marks, within) && !marks[n as usize] {
-                marks[n as usize] = true;
-                more = true;
+    let mut grown = false;
+    for (within, token) in Walk::over(tokens) {
+        if let Some(n) = callee_of(&token) {
+            if set.has(within) && set.insert(n) {
+                grown = true;
             }
         }
-        within = home_after(tokens, i, within);
     }
-    more
+    grown
 }
 
-// The modules that `root` reaches by calls, itself included. Where calls go down, the second pass marks nothing new.
+// The modules that `root` reaches by calls, itself included. Where calls go down, the second pass adds none.
+fn level(tokens: &[Placed], root: u8) -> ModuleSet
+    ensures { Marks (kinds_of tokens.now) root result.marks }
+{
+    let mut set = ModuleSet::of(root);
+    while spread(tokens, &mut set) {}
+    set
+}
+
+// The modules that `root` reaches by calls, itself included.
 pub fn reached(tokens: &[Placed], root: u8) -> [bool; 256]
     ensures { Marks (kinds_of tokens.now) root result }
 {
-    let mut marks = [false; 256];
-    marks[root as usize] = true;
-    while spread(tokens, &mut marks) {}
-    marks
+    level(tokens, root).marks
 }
 
 // Cause 11: the first token for level 1 alone in a module that level 0 reaches.
@@ -136,71 +123,50 @@ pub fn misplaced(tokens: &[Placed]) -> Option<usize>
     ensures one { OneFinding (Misplaced (kinds_of tokens.now)) }
     ensures homes { HomeIsLastLabel }
 {
-    let slow = reached(tokens, 0);
-    let mut within: Option<u8> = None;
-    for i in 0..tokens.len() {
-        if let Role::LevelOne = role_at(tokens, i) {
-            if is_lit(&slow, within) {
-                return Some(i);
-            }
-        }
-        within = home_after(tokens, i, within);
-    }
-    None
+    let slow = level(tokens, 0);
+    Walk::over(tokens).position(|(within, token)| slow.has(within) && is_for_level_one(&token))
 }
 
-// Whether a token before `to`, in a marked module, stores into one of the bytes from `first` to `last`.
-fn touched(tokens: &[Placed], marks: &[bool; 256], first: u16, last: u16, to: usize) -> bool
-    requires { to ≤ length tokens.now }
-    ensures { Decides result (Touched (kinds_of tokens.now) marks.now first last to) }
+// Whether a token in a module of the set stores into one of the bytes.
+fn touched(tokens: &[Placed], set: &ModuleSet, bytes: Span) -> bool
+    ensures { Decides result (Touched (kinds_of tokens.now) set.now.marks bytes) }
 {
-    let mut within: Option<u8> = None;
-    for j in 0..to {
-        if role_at(tokens, j).stores_among(first, last) {
-            if is_lit(marks, within) {
-                return true;
-            }
-        }
-        within = home_after(tokens, j, within);
-    }
-    false
+    Walk::over(tokens).any(|(within, token)| set.has(within) && stores_among(&token, bytes))
 }
 
-// Whether module `within` is marked in `one`, and a token before `to` that stores into one of the bytes stands in a module that
-// is marked in `other`.
-fn meets(
-    tokens: &[Placed],
-    one: &[bool; 256],
-    other: &[bool; 256],
-    within: Option<u8>,
-    bytes: (u16, u16),
-    to: usize,
-) -> bool
-    requires { to ≤ length tokens.now }
-    ensures { Decides result (Meets (kinds_of tokens.now) one.now other.now within bytes.0 bytes.1 to) }
-{
-    is_lit(one, within) && touched(tokens, other, bytes.0, bytes.1, to)
-}
-
-// Whether one level stores at `i`, in module `within`, into a byte that the other stores into no later.
+// Whether module `within` is on one level, and a token on the other stores into one of the bytes.
 fn clashes(
     tokens: &[Placed],
-    slow: &[bool; 256],
-    quick: &[bool; 256],
+    slow: &ModuleSet,
+    quick: &ModuleSet,
     within: Option<u8>,
+    bytes: Span,
+) -> bool
+    ensures { Decides result (MeetsEither (kinds_of tokens.now) slow.now.marks quick.now.marks within bytes) }
+{
+    (quick.has(within) && touched(tokens, slow, bytes))
+        || (slow.has(within) && touched(tokens, quick, bytes))
+}
+
+// Whether the token at `i`, which stands in module `within`, stores into a byte that the other level stores into no later. A
+// match, as in `repeats`.
+fn clashes_at(
+    tokens: &[Placed],
+    slow: &ModuleSet,
+    quick: &ModuleSet,
     i: usize,
+    within: Option<u8>,
 ) -> bool
     requires inside { i < length tokens.now }
-    requires at { within ≡ home (kinds_of tokens.now) i }
-    requires slow { Marks (kinds_of tokens.now) 0 slow.now }
-    requires quick { Marks (kinds_of tokens.now) 1 quick.now }
+    requires home { within ≡ home (kinds_of tokens.now) i }
+    requires slow { Marks (kinds_of tokens.now) 0 slow.now.marks }
+    requires quick { Marks (kinds_of tokens.now) 1 quick.now.marks }
     ensures { Decides result (Clash (kinds_of tokens.now) i) }
 {
-    let Role::Store(first, last) = role_at(tokens, i) else {
-        return false;
-    };
-    meets(tokens, quick, slow, within, (first, last), i + 1)
-        || meets(tokens, slow, quick, within, (first, last), i + 1)
+    match stored_by(&tokens[i].token) {
+        Some(bytes) => clashes(&tokens[..i + 1], slow, quick, within, bytes),
+        None => false,
+    }
 }
 
 // Cause 12: the first store into a byte that the other level stores into no later.
@@ -208,14 +174,9 @@ pub fn clashing(tokens: &[Placed]) -> Option<usize>
     ensures first { Found (Clash (kinds_of tokens.now)) result }
     ensures one { OneFinding (Clash (kinds_of tokens.now)) }
 {
-    let slow = reached(tokens, 0);
-    let quick = reached(tokens, 1);
-    let mut within: Option<u8> = None;
-    for i in 0..tokens.len() {
-        if clashes(tokens, &slow, &quick, within, i) {
-            return Some(i);
-        }
-        within = home_after(tokens, i, within);
-    }
-    None
+    let slow = level(tokens, 0);
+    let quick = level(tokens, 1);
+    Walk::over(tokens).enumerate().position(|(i, (within, _))| clashes_at(
+        tokens, &slow, &quick, i, within,
+    ))
 }

@@ -1,91 +1,96 @@
-// What the linking rules see in a token.
-ghost use Rattle.std.specs.Prelude.{◌≡◌, ◌<◌, length, Decides};
-ghost use Rattle.tokens.specs.Tokens.{lexeme};
-ghost use Rattle.rules.specs.Labels.{kinds_of, kind_at};
-ghost use Rattle.rules.specs.Tables.{referred, span, role_of, CoversSome};
+// What the linking rules ask of a single token.
+ghost use Rattle.std.specs.Prelude.{◌≡◌, ℕ, ◌↔◌, Some, Decides};
+ghost use Rattle.tokens.specs.Tokens.{lexeme, label, call};
+ghost use Rattle.rules.specs.Levels.{after, Level1Alone};
+ghost use Rattle.rules.specs.Bytes.{Stores};
+ghost use Rattle.rules.specs.Tables.{span, Covers, Overlap, StoresAmong};
 
-use reading::Placed;
 use tokens::{Area, Token, WordCell};
 
-// A label, a call, a token for level 1 alone, or a store with the first and the last byte that it stores into, by their
-// numbers among the 144.
+// Some of the 144 bytes, by the numbers of the first and the last.
 #[derive(Clone, Copy)]
-pub enum Role {
-    Plain,
-    Label(u8),
-    Call(u8),
-    LevelOne,
-    Store(u16, u16),
+pub struct Span {
+    pub first: u16,
+    pub last: u16,
 }
 
-// The role of a token that refers to an area.
-fn reference_role(area: Area) -> Role
-    ensures { result ≡ referred area }
-{
-    match area {
-        Area::Change => Role::LevelOne,
-        Area::Input | Area::Output | Area::Internal => Role::Plain,
+impl Span {
+    // Whether a byte lies in both.
+    pub(crate) fn meets(self, other: Span) -> bool
+        ensures { Decides result (Overlap self other) }
+    {
+        self.first.max(other.first) <= self.last.min(other.last)
     }
 }
 
-// The role of a token that stores into a byte of an area and into `more` behind it.
-fn store_role(area: Area, byte: u8, more: u8) -> Role
-    ensures { result ≡ span area byte more }
-{
-    let first = u16::from(byte);
-    let more = u16::from(more);
-    match area {
-        Area::Output => Role::Store(128 + first, 128 + first + more),
-        Area::Internal => Role::Store(first, first + more),
-        Area::Input | Area::Change => Role::Plain,
-    }
-}
-
-// The role of a token.
-fn role_of(token: &Token) -> Role
-    ensures { result ≡ role_of (lexeme token.now).kind }
+// The number of a label. This and `callee_of` differ in a pattern, for which a parameter would be longer than the match.
+pub(crate) fn label_of(token: &Token) -> Option<u8>
+    ensures { (n : ℕ) → (lexeme token.now).kind ≡ label n ↔ result ≡ Some n }
 {
     match *token {
-        Token::Label(_, n) => Role::Label(n),
-        Token::Call(_, n) => Role::Call(n),
-        Token::LoadBit(_, cell, _) => reference_role(cell.area),
-        Token::LoadWord(_, WordCell::Pair(area, _), _) => reference_role(area),
-        Token::LoadWord(_, WordCell::Timer(_), _) => Role::Plain,
-        Token::Test(_, cell, _) => reference_role(cell.area),
-        Token::StoreBit(_, cell, _) => store_role(cell.area, cell.byte, 0),
-        Token::StoreWord(_, WordCell::Pair(area, byte), _) => store_role(area, byte, 1),
-        Token::StoreWord(_, WordCell::Timer(_), _) => Role::LevelOne,
-        Token::Switch(_, cell, _) => store_role(cell.area, cell.byte, 0),
-        Token::Open(_) => Role::Plain,
-        Token::Close(_) => Role::Plain,
-        Token::Number(_, _) => Role::Plain,
-        Token::LoadNumber(_, _) => Role::Plain,
-        Token::Operator(_, _) => Role::Plain,
-        Token::Comparison(_, _) => Role::Plain,
-        Token::Else(_) => Role::Plain,
-        Token::EndIf(_) => Role::Plain,
-        Token::End(_, _) => Role::Plain,
-        Token::Return(_) => Role::Plain,
+        Token::Label(_, n) => Some(n),
+        _ => None,
     }
 }
 
-// The role of the token at `i`.
-pub(crate) fn role_at(tokens: &[Placed], i: usize) -> Role
-    requires { i < length tokens.now }
-    ensures { result ≡ role_of (kind_at (kinds_of tokens.now) i) }
+// The label that a call goes to.
+pub(crate) fn callee_of(token: &Token) -> Option<u8>
+    ensures { (n : ℕ) → (lexeme token.now).kind ≡ call n ↔ result ≡ Some n }
 {
-    let placed = tokens[i];
-    role_of(&placed.token)
+    match *token {
+        Token::Call(_, n) => Some(n),
+        _ => None,
+    }
 }
 
-impl Role {
-    // Whether a token with this role stores into one of the bytes from `first` to `last`.
-    pub(crate) fn stores_among(self, first: u16, last: u16) -> bool
-        ensures { Decides result (CoversSome self first last) }
-    {
-        match self {
-            Role::Store(from, to) => first.max(from) <= last.min(to),
-            _ => false,
-        }
+// The module behind a token that stands in module `within`.
+pub(crate) fn home_behind(token: &Token, within: Option<u8>) -> Option<u8>
+    ensures { result ≡ after (lexeme token.now).kind within }
+{
+    label_of(token).or(within)
+}
+
+// Whether a token is for level 1 alone.
+pub(crate) fn is_for_level_one(token: &Token) -> bool
+    ensures { Decides result (Level1Alone (lexeme token.now).kind) }
+{
+    match *token {
+        Token::LoadBit(_, cell, _) | Token::Test(_, cell, _) => cell.area == Area::Change,
+        Token::LoadWord(_, WordCell::Pair(area, _), _) => area == Area::Change,
+        Token::StoreWord(_, WordCell::Timer(_), _) => true,
+        _ => false,
     }
+}
+
+// Byte `byte` of an area and `more` behind it, where tokens may store there.
+fn span_of(area: Area, byte: u8, more: u8) -> Option<Span>
+    ensures { result ≡ span area byte more }
+{
+    let first = match area {
+        Area::Output => 128 + u16::from(byte),
+        Area::Internal => u16::from(byte),
+        Area::Input | Area::Change => return None,
+    };
+    Some(Span {
+        first,
+        last: first + u16::from(more),
+    })
+}
+
+// The bytes that a token stores into.
+pub(crate) fn stored_by(token: &Token) -> Option<Span>
+    ensures { (b : ℕ) → Stores (lexeme token.now).kind b ↔ Covers result b }
+{
+    match *token {
+        Token::StoreBit(_, cell, _) | Token::Switch(_, cell, _) => span_of(cell.area, cell.byte, 0),
+        Token::StoreWord(_, WordCell::Pair(area, byte), _) => span_of(area, byte, 1),
+        _ => None,
+    }
+}
+
+// Whether a token stores into one of the bytes.
+pub(crate) fn stores_among(token: &Token, bytes: Span) -> bool
+    ensures { Decides result (StoresAmong (lexeme token.now).kind bytes) }
+{
+    stored_by(token).is_some_and(|own| own.meets(bytes))
 }

@@ -1,5 +1,6 @@
 -- Each piece, where it stands, is read as that piece. Assumes nothing.
 use Rattle.std.proofs.Common.{◌≡◌, ℕ, zero, suc, ◌+◌, ◌<◌, ◌≤◌, true, false, ◌⊎◌, List, [], ◌∷◌, ◌++◌, length, get_or, take, drop, Some, None, Ok, Err, Result, sym, refl, ap, ◌∙◌, subst, inl, inr, append_assoc, append-nil, add-zero, add-one, arith}
+use Rattle.std.proofs.Math.Seq.{take-append_seam, drop-append_seam}
 use Rattle.std.proofs.lemmas.List.{length-append}
 use Rattle.std.proofs.lemmas.Bool.{ne_eqb, eq-eqb, cond-true, cond-false}
 use Rattle.faults.specs.declared.Place.{Place}
@@ -76,20 +77,12 @@ next_bad p b bs h =
     ∙ cond-false _ _ _ (ne_eqb (suc (length bs)) 0 (λ z. omega arith))
     ∙ cond-true _ _ _ (eq-eqb (word_len (b ∷ bs)) 0 none)
 
-take_front : (w after : List ℕ) → take (length w) (w ++ after) ≡ w
-take_front [] after = refl
-take_front (b ∷ w) after = ap (λ v. b ∷ v) (take_front w after)
-
-drop_front : (w after : List ℕ) → drop (length w) (w ++ after) ≡ after
-drop_front [] after = refl
-drop_front (b ∷ w) after = drop_front w after
-
 next_run : (p : Place) (b : ℕ) (w after : List ℕ) → Running (b ∷ w) after → RunOver after → next_of p (b ∷ (w ++ after)) ≡ found p (b ∷ w) (walk p (b ∷ w)) after
 next_run p b w after h e =
     let long : word_len (b ∷ (w ++ after)) ≡ suc (length w) = cond-false _ _ _ (run_no_bracket b _ h.0) ∙ run_length (b ∷ w) after h e in
     next_found p b (w ++ after) (length w) (run_stops_skip p b _ h.0) long
-    ∙ ap (λ v. found p (b ∷ v) (across p (suc (length w))) (drop (length w) (w ++ after))) (take_front w after)
-    ∙ ap (found p (b ∷ w) (across p (suc (length w)))) (drop_front w after)
+    ∙ ap (λ v. found p (b ∷ v) (across p (suc (length w))) (drop (length w) (w ++ after))) (take-append_seam w after)
+    ∙ ap (found p (b ∷ w) (across p (suc (length w)))) (drop-append_seam w after)
     ∙ ap (λ q. found p (b ∷ w) q after) (sym (walk_run p (b ∷ w) after h))
 
 next_bracket : (p : Place) (b : ℕ) (after : List ℕ) → bracket b ≡ true → next_of p (b ∷ after) ≡ found p (b ∷ []) (past p b) after

@@ -29,7 +29,7 @@ more_if false text n c d q w h e = refl
 
 end_if : (t : Bool) (text : List ℕ) (n : ℕ) (c : Cursor) → cond t (next_of c.place (drop c.at text)) (refused TooLong) ≡ finished → cond t (words_by (suc (length text - n)) c.place (drop c.at text)) (Err TooLong) ≡ Ok []
 end_if true text n c e = rw (words_by, e)
-end_if false text n c e = let z : ◌≡◌ {A = ℕ} 0 1 = cc in absurd (omega arith)
+end_if false text n c e = absurd (cc)
 
 fault_if : (t : Bool) (text : List ℕ) (n : ℕ) (c : Cursor) (f : ScanFault) → cond t (next_of c.place (drop c.at text)) (refused TooLong) ≡ refused f → cond t (words_by (suc (length text - n)) c.place (drop c.at text)) (Err TooLong) ≡ Err f
 fault_if true text n c f e = rw (words_by, e)

@@ -1,11 +1,11 @@
 // Cuts a text into words, past white space and comments.
 #![tactic(auto)]
 
-ghost use Rattle.std.specs.Prelude.{◌≡◌, ◌+◌, ◌<◌, ◌≤◌, length, drop, IfOk, slice_index};
+ghost use Rattle.std.specs.Prelude.{◌≡◌, ◌<◌, ◌≤◌, length, IfSome};
+ghost use Rattle.std.specs.Option.{unwrap_or};
 ghost use Rattle.scanning.specs.Text.{longest, past, in_run};
 ghost use Rattle.scanning.specs.Pieces.{OneVerdict};
-ghost use Rattle.scanning.specs.Scan.{Reached, Within, end_of, mode_after, skip_of, skipped, run_of, word_len, next_of, told, Goes, scan_of, counted, CountsVerdict};
-ghost use Rattle.scanning.specs.declared.Mode.TheVariants.{Between};
+ghost use Rattle.scanning.specs.Scan.{Reached, end_of, mode_after, run_of, word_len, scan_of, counted, CountsVerdict};
 
 pub mod scanner;
 
@@ -33,7 +33,8 @@ pub enum ScanFault {
     Unclosed(Place),
 }
 
-// What is being skipped. A comment in slashes keeps the place that it was opened at.
+// What is being skipped: white space, a comment of a line, the star of `/*`, a comment in slashes, or the slash of `*/`. One in
+// slashes keeps the place that it was opened at.
 #[derive(Clone, Copy)]
 enum Mode {
     Between,
@@ -54,47 +55,28 @@ fn place_past(place: Place, b: u8) -> Place
         }
     } else {
         Place {
-            line: place.line,
             column: place.column + 1,
+            ..place
         }
     }
 }
 
-// What is skipped behind a byte; nothing where the byte is not skipped.
-fn mode_after(mode: Mode, place: Place, b: u8, ahead: u8) -> Option<Mode>
-    ensures { result ≡ mode_after mode place b ahead }
+// What is skipped behind a byte; nothing where the byte is not skipped. The definitions read 0 where no byte stands ahead.
+fn mode_after(mode: Mode, place: Place, b: u8, ahead: Option<u8>) -> Option<Mode>
+    ensures { result ≡ mode_after mode place b (unwrap_or ahead 0) }
 {
-    match mode {
-        Mode::Between => match b {
-            b' ' | b'\t' | b'\n' | b'\r' => Some(Mode::Between),
-            b';' => Some(Mode::Line),
-            b'/' if ahead == b'*' => Some(Mode::Opening(place)),
-            _ => None,
-        },
-        Mode::Line => {
-            if b == b'\n' {
-                Some(Mode::Between)
-            } else {
-                Some(Mode::Line)
-            }
-        }
-        Mode::Opening(opened) => Some(Mode::Block(opened)),
-        Mode::Block(opened) => {
-            if b == b'*' && ahead == b'/' {
-                Some(Mode::Closing)
-            } else {
-                Some(Mode::Block(opened))
-            }
-        }
-        Mode::Closing => Some(Mode::Between),
+    match (mode, b, ahead) {
+        (Mode::Between, b' ' | b'\t' | b'\n' | b'\r', _) => Some(Mode::Between),
+        (Mode::Between, b';', _) => Some(Mode::Line),
+        (Mode::Between, b'/', Some(b'*')) => Some(Mode::Opening(place)),
+        (Mode::Between, _, _) => None,
+        (Mode::Line, b'\n', _) => Some(Mode::Between),
+        (Mode::Line, _, _) => Some(Mode::Line),
+        (Mode::Opening(opened), _, _) => Some(Mode::Block(opened)),
+        (Mode::Block(_), b'*', Some(b'/')) => Some(Mode::Closing),
+        (Mode::Block(opened), _, _) => Some(Mode::Block(opened)),
+        (Mode::Closing, _, _) => Some(Mode::Between),
     }
-}
-
-// The byte at `i`, or 0 where there is none.
-fn byte_at(text: &[u8], i: usize) -> u8
-    ensures { result ≡ slice_index text.now i }
-{
-    if i < text.len() { text[i] } else { 0 }
 }
 
 // What the end of the text means.
@@ -103,101 +85,42 @@ fn ended(mode: Mode, here: Cursor) -> Result<Cursor, ScanFault>
 {
     match mode {
         Mode::Between | Mode::Line | Mode::Closing => Ok(here),
-        Mode::Opening(opened) => Err(ScanFault::Unclosed(opened)),
-        Mode::Block(opened) => Err(ScanFault::Unclosed(opened)),
+        Mode::Opening(opened) | Mode::Block(opened) => Err(ScanFault::Unclosed(opened)),
     }
-}
-
-// Past white space and comments.
-fn skip(text: &[u8], from: Cursor) -> Result<Cursor, ScanFault>
-    requires cursor { Within text.now from }
-    requires short_enough { length text.now ≤ longest }
-    ensures is { skipped text.now result ≡ skip_of Between from.place (drop from.at text.now) }
-    ensures within { IfOk result (λ c. (from.at ≤ c.at) × Within text.now c) }
-{
-    let mut at = from.at;
-    let mut place = from.place;
-    let mut mode = Mode::Between;
-    while at < text.len() {
-        let b = text[at];
-        match mode_after(mode, place, b, byte_at(text, at + 1)) {
-            Some(next) => mode = next,
-            None => return Ok(Cursor { at, place }),
-        }
-        place = place_past(place, b);
-        at += 1;
-    }
-    ended(mode, Cursor { at, place })
 }
 
 // Whether a byte, with the one behind it, goes on a run.
-fn in_run(b: u8, ahead: u8) -> bool
-    ensures { result ≡ in_run b ahead }
+fn in_run(b: u8, ahead: Option<u8>) -> bool
+    ensures { result ≡ in_run b (unwrap_or ahead 0) }
 {
-    match b {
-        b'[' | b']' | b';' => false,
-        b'/' => ahead != b'*',
-        33..=126 => true,
-        _ => false,
+    match (b, ahead) {
+        (b'[' | b']' | b';', _) | (b'/', Some(b'*')) => false,
+        _ => b.is_ascii_graphic(),
     }
 }
 
-// How many bytes from `at` on go on a run.
-fn run_len(text: &[u8], at: usize) -> usize
-    requires { at ≤ length text.now }
-    ensures is { result ≡ run_of (drop at text.now) }
-    ensures within { at + result ≤ length text.now }
+// How many bytes at the front go on a run.
+fn run_len(bytes: &[u8]) -> usize
+    ensures is { result ≡ run_of bytes.now }
+    ensures within { result ≤ length bytes.now }
 {
-    let mut end = at;
-    while end < text.len() {
-        if !in_run(text[end], byte_at(text, end + 1)) {
-            return end - at;
+    for (n, &b) in bytes.iter().enumerate() {
+        if !in_run(b, bytes.get(n + 1).copied()) {
+            return n;
         }
-        end += 1;
     }
-    end - at
+    bytes.len()
 }
 
-// How long the word at `at` is, 0 where its first byte is refused.
-fn word_len(text: &[u8], at: usize) -> usize
-    requires { at < length text.now }
-    ensures is { result ≡ word_len (drop at text.now) }
-    ensures within { at + result ≤ length text.now }
+// How long the word at the front is; nothing where its first byte is refused.
+fn word_len(bytes: &[u8]) -> Option<usize>
+    ensures is { unwrap_or result 0 ≡ word_len bytes.now }
+    ensures some { IfSome result (λ n. (0 < n) × (n ≤ length bytes.now)) }
 {
-    match text[at] {
-        b'[' | b']' => 1,
-        _ => run_len(text, at),
+    match bytes {
+        [b'[' | b']', ..] => Some(1),
+        _ => Some(run_len(bytes)).filter(|&n| n > 0),
     }
-}
-
-// The next word, and the cursor behind it.
-fn word_from<'a>(text: &'a [u8], from: Cursor) -> Result<Option<(Word<'a>, Cursor)>, ScanFault>
-    requires cursor { Within text.now from }
-    requires short_enough { length text.now ≤ longest }
-    ensures is { told text.now result ≡ next_of from.place (drop from.at text.now) }
-    ensures goes { Goes text.now from.at result }
-{
-    let here = skip(text, from)?;
-    let at = here.at;
-    if at >= text.len() {
-        return Ok(None);
-    }
-    let n = word_len(text, at);
-    if n == 0 {
-        return Err(ScanFault::Byte(here.place));
-    }
-    let place = Place {
-        line: here.place.line,
-        column: here.place.column + n as u32,
-    };
-    let part = &text[at..at + n];
-    Ok(Some((
-        Word {
-            part,
-            place: here.place,
-        },
-        Cursor { at: at + n, place },
-    )))
 }
 
 // How many words a text has.
@@ -207,6 +130,7 @@ pub fn count_words(text: &[u8]) -> Result<usize, ScanFault>
     ensures one { OneVerdict text.now }
 {
     let mut scanner = Scanner::new(text);
+    // A loop and no iterator's `count`: a fault ends it.
     let mut n = 0;
     while let Some(_word) = scanner.next_word()? {
         n += 1;

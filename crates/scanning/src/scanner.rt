@@ -1,8 +1,10 @@
 // A scanner: a text, and how far it is read.
-ghost use Rattle.std.specs.Prelude.{◌≡◌};
-ghost use Rattle.scanning.specs.Scan.{Within, origin, next_in, told_by, Moves, Stays};
+ghost use Rattle.std.specs.Prelude.{◌≡◌, ◌≤◌, length, drop, IfOk};
+ghost use Rattle.scanning.specs.Text.{longest};
+ghost use Rattle.scanning.specs.Scan.{Within, origin, skip_of, skipped, next_of, next_in, told, told_by, Goes, Moves, Stays};
+ghost use Rattle.scanning.specs.declared.Mode.TheVariants.{Between};
 
-use crate::{Cursor, ScanFault, Word, word_from};
+use crate::{Cursor, Mode, ScanFault, Word, ended, mode_after, place_past, word_len};
 use faults::Place;
 
 #[derive(Drop)]
@@ -35,12 +37,56 @@ impl<'a> Scanner<'a> {
         if self.text.len() > 16384 {
             return Err(ScanFault::TooLong);
         }
-        match word_from(self.text, self.here)? {
-            Some((word, after)) => {
-                self.here = after;
-                Ok(Some(word))
-            }
-            None => Ok(None),
+        let Some((word, after)) = self.word_ahead()? else {
+            return Ok(None);
+        };
+        self.here = after;
+        Ok(Some(word))
+    }
+
+    // The cursor past white space and comments.
+    fn skip(&self) -> Result<Cursor, ScanFault>
+        requires short_enough { length self.now.text.now ≤ longest }
+        ensures is { skipped self.now.text.now result ≡ skip_of Between self.now.here.place (drop self.now.here.at self.now.text.now) }
+        ensures within { IfOk result (λ c. (self.now.here.at ≤ c.at) × Within self.now.text.now c) }
+    {
+        let Cursor { at, mut place } = self.here;
+        let rest = &self.text[at..];
+        let mut mode = Mode::Between;
+        for (n, &b) in rest.iter().enumerate() {
+            let Some(next) = mode_after(mode, place, b, rest.get(n + 1).copied()) else {
+                return Ok(Cursor { at: at + n, place });
+            };
+            mode = next;
+            place = place_past(place, b);
         }
+        let at = self.text.len();
+        ended(mode, Cursor { at, place })
+    }
+
+    // The next word, and the cursor behind it.
+    fn word_ahead(&self) -> Result<Option<(Word<'a>, Cursor)>, ScanFault>
+        requires short_enough { length self.now.text.now ≤ longest }
+        ensures is { told self.now.text.now result ≡ next_of self.now.here.place (drop self.now.here.at self.now.text.now) }
+        ensures goes { Goes self.now.text.now self.now.here.at result }
+    {
+        let Cursor { at, place } = self.skip()?;
+        let rest = &self.text[at..];
+        if rest.is_empty() {
+            return Ok(None);
+        }
+        let n = word_len(rest).ok_or(ScanFault::Byte(place))?;
+        let word = Word {
+            part: &rest[..n],
+            place,
+        };
+        let after = Cursor {
+            at: at + n,
+            place: Place {
+                column: place.column + n as u32,
+                ..place
+            },
+        };
+        Ok(Some((word, after)))
     }
 }

@@ -2,7 +2,9 @@ ghost use Rattle.std.specs.Prelude.{◌≤◌, length};
 
 mod methods;
 
-// A stack whose entries are the first `len` slots, the newest in the last of them.
+// A stack whose entries are the first `len` slots, the newest in the last of them. Slots with a length beside them and
+// not a Vec: this crate has no heap, and its memory is lent. That a call leaves `room` and `lender` as they were is two
+// clauses and not one, since callers cite the first alone.
 #[derive(Drop)]
 pub struct Stack<'m, T> {
     slots: &'m mut [T],
@@ -11,5 +13,5 @@ pub struct Stack<'m, T> {
 }
 
 // There are not enough slots.
-#[derive(Clone, Copy)]
+#[derive(Clone, Copy, Debug, PartialEq, Eq)]
 pub struct Full;

@@ -1,13 +1,13 @@
 // Whole lists: calls, both levels.
 use crate::rows::Fact::{Byte, Input};
-use crate::rows::{Fact, runs};
+use crate::rows::{Fact, Level, Pass, runs};
 use std::test::Fail;
 
-// A list, whether the pass is of :000, what is not 0 before it; then OP, the steps, the figure, and what the pass stores into.
-const ROWS: [(&[u8], bool, &[Fact], u16, u16, u16, &[Fact]); 19] = [
+// A list, the level of the pass, what is not 0 before it; then OP, the steps, the figure, and what the pass stores into.
+const ROWS: [(&[u8], Level, &[Fact], u16, u16, u16, &[Fact]); 19] = [
     (
         b":001 L5 G003 + 1 J1 :000 J0 :003 + 10 R",
-        false,
+        Level::Quick,
         &[],
         16,
         6,
@@ -16,7 +16,7 @@ const ROWS: [(&[u8], bool, &[Fact], u16, u16, u16, &[Fact]); 19] = [
     ),
     (
         b":001 L1 G003 SF000 J1 :000 J0 :003 + 1 G004 + 1 R :004 + 1 G005 + 1 R :005 + 100 R",
-        false,
+        Level::Quick,
         &[],
         105,
         14,
@@ -25,17 +25,25 @@ const ROWS: [(&[u8], bool, &[Fact], u16, u16, u16, &[Fact]); 19] = [
     ),
     (
         b":001 L1 G003 G003 J1 :000 J0 :003 + [ LI00 ] R",
-        false,
+        Level::Quick,
         &[Input(0, 20)],
         41,
         12,
         12,
         &[],
     ),
-    (b":001 G003 J1 :000 J0 :003 R", false, &[], 0, 3, 3, &[]),
+    (
+        b":001 G003 J1 :000 J0 :003 R",
+        Level::Quick,
+        &[],
+        0,
+        3,
+        3,
+        &[],
+    ),
     (
         b":001 L6 + [ L5 ] G003 - [ L1 ] J1 :000 J0 :003 + [ L2 + [ L3 ] ] R",
-        false,
+        Level::Quick,
         &[],
         15,
         16,
@@ -44,7 +52,7 @@ const ROWS: [(&[u8], bool, &[Fact], u16, u16, u16, &[Fact]); 19] = [
     ),
     (
         b":001 I000 G003 E G004 Z J1 :000 J0 :003 L3 R :004 L4 L5 R",
-        false,
+        Level::Quick,
         &[Input(0, 1)],
         3,
         6,
@@ -53,18 +61,18 @@ const ROWS: [(&[u8], bool, &[Fact], u16, u16, u16, &[Fact]); 19] = [
     ),
     (
         b":001 I000 G003 E G004 Z J1 :000 J0 :003 L3 R :004 L4 L5 R",
-        false,
+        Level::Quick,
         &[],
         5,
         6,
         6,
         &[],
     ),
-    (b":001 L8 J1 :000 L5 J0", true, &[], 5, 2, 2, &[]),
-    (b":000 L5 J0 :001 L8 J1", false, &[], 8, 2, 2, &[]),
+    (b":001 L8 J1 :000 L5 J0", Level::Slow, &[], 5, 2, 2, &[]),
+    (b":000 L5 J0 :001 L8 J1", Level::Quick, &[], 8, 2, 2, &[]),
     (
         b":001 G050 J1 :000 LI02 G050 SY02 J0 :050 A .000F R",
-        true,
+        Level::Slow,
         &[Input(1, 4660)],
         4,
         6,
@@ -73,7 +81,7 @@ const ROWS: [(&[u8], bool, &[Fact], u16, u16, u16, &[Fact]); 19] = [
     ),
     (
         b":001 G050 J1 :000 LI02 G050 SY02 J0 :050 A .000F R",
-        false,
+        Level::Quick,
         &[Input(1, 4660)],
         0,
         4,
@@ -82,7 +90,7 @@ const ROWS: [(&[u8], bool, &[Fact], u16, u16, u16, &[Fact]); 19] = [
     ),
     (
         b":001 I000 U001 E D001 Z J1 :000 LI00 + LF010 SF010 SY02 J0",
-        false,
+        Level::Quick,
         &[Input(0, 1)],
         0,
         4,
@@ -91,7 +99,7 @@ const ROWS: [(&[u8], bool, &[Fact], u16, u16, u16, &[Fact]); 19] = [
     ),
     (
         b":001 I000 U001 E D001 Z J1 :000 LI00 + LF010 SF010 SY02 J0",
-        false,
+        Level::Quick,
         &[Byte(128, 2)],
         0,
         3,
@@ -100,7 +108,7 @@ const ROWS: [(&[u8], bool, &[Fact], u16, u16, u16, &[Fact]); 19] = [
     ),
     (
         b":001 I000 U001 E D001 Z J1 :000 LI00 + LF010 SF010 SY02 J0",
-        true,
+        Level::Slow,
         &[Input(0, 1)],
         1,
         5,
@@ -109,7 +117,7 @@ const ROWS: [(&[u8], bool, &[Fact], u16, u16, u16, &[Fact]); 19] = [
     ),
     (
         b":001 I000 U001 E D001 Z J1 :000 LI00 + LF010 SF010 SY02 J0",
-        true,
+        Level::Slow,
         &[Byte(10, 255), Byte(11, 255), Input(0, 1)],
         0,
         5,
@@ -118,7 +126,7 @@ const ROWS: [(&[u8], bool, &[Fact], u16, u16, u16, &[Fact]); 19] = [
     ),
     (
         b":001 G003 J1 :000 J0 :003 G004 R :004 G005 R :005 G006 R :006 G007 R :007 G008 R :008 G009 R :009 G010 R :010 [[[[[[[[L5]]]]]]]] R",
-        false,
+        Level::Quick,
         &[],
         5,
         34,
@@ -127,7 +135,7 @@ const ROWS: [(&[u8], bool, &[Fact], u16, u16, u16, &[Fact]); 19] = [
     ),
     (
         b":001 J1 :000 G003 SF000 J0 :003 L1 G004 + 1 R :004 I000 + 5 G005 E - 5 Z R :005 UF0100 R",
-        true,
+        Level::Slow,
         &[Input(0, 1)],
         7,
         14,
@@ -136,7 +144,7 @@ const ROWS: [(&[u8], bool, &[Fact], u16, u16, u16, &[Fact]); 19] = [
     ),
     (
         b":001 J1 :000 G003 SF000 J0 :003 L1 G004 + 1 R :004 I000 + 5 G005 E - 5 Z R :005 UF0100 R",
-        true,
+        Level::Slow,
         &[],
         65533,
         10,
@@ -145,7 +153,7 @@ const ROWS: [(&[u8], bool, &[Fact], u16, u16, u16, &[Fact]); 19] = [
     ),
     (
         b":001 G199 U000 J1 :000 J0 :199 I000 SF000 E SF002 Z R",
-        false,
+        Level::Quick,
         &[],
         0,
         6,
@@ -156,8 +164,16 @@ const ROWS: [(&[u8], bool, &[Fact], u16, u16, u16, &[Fact]); 19] = [
 
 #[test]
 fn lists(rt: HostRuntime) -> Result<(), Fail> {
-    for (row, (text, slow, before, op, steps, figure, after)) in ROWS.iter().enumerate() {
-        runs(&rt, row, text, *slow, before, *op, *steps, *figure, after)?;
+    for (row, (text, level, facts, op, steps, figure, after)) in ROWS.iter().enumerate() {
+        let said = Pass {
+            level: *level,
+            facts,
+            op: *op,
+            steps: *steps,
+            figure: *figure,
+            after,
+        };
+        runs(&rt, row, text, said)?;
     }
     Ok(())
 }

@@ -1,7 +1,7 @@
 // What a row says of a pass, and whether the pass does it.
-use linking::{Compiled, compile};
+use linking::{Compiled, Figures, compile};
 use meaning::run_pass;
-use program::Sight;
+use program::{Program, Sight};
 use std::process::Abort;
 use std::test::Fail;
 
@@ -44,10 +44,7 @@ pub(crate) fn with(cells: Cells, facts: &[Fact]) -> Result<Cells, Fail> {
 // The cells before a pass: nothing is stored yet.
 pub(crate) fn before(facts: &[Fact]) -> Result<Cells, Fail> {
     let zero = Cells {
-        sight: Sight {
-            inputs: [0; 8],
-            previous: [0; 8],
-        },
+        sight: Sight::default(),
         bytes: [0; 144],
         timers: [0; 20],
         stored: [false; 144],
@@ -57,32 +54,53 @@ pub(crate) fn before(facts: &[Fact]) -> Result<Cells, Fail> {
     Ok(cells)
 }
 
-// A pass of :001, or of :000 where `slow` is set, gives OP, takes so many steps, and stores into just the bytes and timers of
-// `after`.
-pub(crate) fn runs(
-    rt: &impl Abort,
-    row: usize,
-    text: &[u8],
-    slow: bool,
-    facts: &[Fact],
-    op: u16,
-    steps: u16,
-    figure: u16,
-    after: &[Fact],
-) -> Result<(), Fail> {
+// A level: :001 or :000.
+#[derive(Clone, Copy)]
+pub(crate) enum Level {
+    Quick,
+    Slow,
+}
+
+impl Level {
+    // The place that its passes start at.
+    pub(crate) fn entry(self, program: &Program) -> u16 {
+        match self {
+            Level::Quick => program.quick(),
+            Level::Slow => program.slow(),
+        }
+    }
+
+    fn figure(self, figures: Figures) -> u16 {
+        match self {
+            Level::Quick => figures.quick,
+            Level::Slow => figures.slow,
+        }
+    }
+}
+
+// A pass of a level, and what is not 0 before it; then OP, the steps, the figure, and the bytes and timers that the pass stores
+// into.
+#[derive(Clone, Copy)]
+pub(crate) struct Pass<'a> {
+    pub(crate) level: Level,
+    pub(crate) facts: &'a [Fact],
+    pub(crate) op: u16,
+    pub(crate) steps: u16,
+    pub(crate) figure: u16,
+    pub(crate) after: &'a [Fact],
+}
+
+// A pass of the list goes as it is said, and stores into nothing else.
+pub(crate) fn runs(rt: &impl Abort, row: usize, text: &[u8], said: Pass<'_>) -> Result<(), Fail> {
     let mut record = Compiled::empty();
     let Ok(figures) = compile(text, &mut record) else {
         return Err(Fail::new(format_args!("row {row}: refused")));
     };
     let program = record.program();
-    let (place, most) = if slow {
-        (program.slow(), figures.slow)
-    } else {
-        (program.quick(), figures.quick)
-    };
-    assert_eq!(rt; most, figure, "row {row}");
-    let cells = before(facts)?;
-    let end = with(cells, after)?;
+    let place = said.level.entry(program);
+    assert_eq!(rt; said.level.figure(figures), said.figure, "row {row}");
+    let cells = before(said.facts)?;
+    let end = with(cells, said.after)?;
     let pass = run_pass(
         program,
         place,
@@ -91,27 +109,15 @@ pub(crate) fn runs(
         cells.timers,
         65535,
     );
-    assert!(rt; pass.over, "row {row}");
-    assert_eq!(rt; pass.steps, steps, "row {row}");
-    assert_eq!(rt; pass.cpu.op(), op, "row {row}");
-    for i in 0..144u8 {
-        assert_eq!(rt;
-            pass.cpu.byte(i),
-            Some(end.bytes[i as usize]),
-            "row {row}, byte {i}"
-        );
-        assert_eq!(rt;
-            pass.cpu.is_stored(i),
-            Some(end.stored[i as usize]),
-            "row {row}, byte {i}"
-        );
+    assert!(rt; pass.cpu.is_over(), "row {row}");
+    assert_eq!(rt; pass.steps, said.steps, "row {row}");
+    assert_eq!(rt; pass.cpu.op(), said.op, "row {row}");
+    for (i, (byte, stored)) in (0..144u8).zip(end.bytes.iter().zip(&end.stored)) {
+        assert_eq!(rt; pass.cpu.byte(i), Some(*byte), "row {row}, byte {i}");
+        assert_eq!(rt; pass.cpu.is_stored(i), Some(*stored), "row {row}, byte {i}");
     }
-    for i in 0..20u8 {
-        assert_eq!(rt;
-            pass.cpu.timer(i),
-            Some(end.timers[i as usize]),
-            "row {row}, timer {i}"
-        );
+    for (i, timer) in (0..20u8).zip(&end.timers) {
+        assert_eq!(rt; pass.cpu.timer(i), Some(*timer), "row {row}, timer {i}");
     }
     Ok(())
 }
@@ -126,17 +132,15 @@ pub(crate) fn bodies(
         text.extend_from_slice(b":001 ")?;
         text.extend_from_slice(body)?;
         text.extend_from_slice(b" J1 :000 J0")?;
-        runs(
-            rt,
-            row,
-            text.as_slice(),
-            false,
+        let said = Pass {
+            level: Level::Quick,
             facts,
-            *op,
-            *steps,
-            *figure,
+            op: *op,
+            steps: *steps,
+            figure: *figure,
             after,
-        )?;
+        };
+        runs(rt, row, text.as_slice(), said)?;
     }
     Ok(())
 }

@@ -1,146 +1,202 @@
 -- Fields are read as they are written. Assumes nothing.
-use Rattle.std.proofs.Common.{◌≡◌, ℕ, zero, suc, ◌+◌, ◌-◌, ◌*◌, ◌/◌, ◌%◌, ◌^◌, ◌<◌, ◌≤◌, true, eqb, leb, List, [], ◌∷◌, ◌++◌, length, replicate, decimal, fold, sym, refl, ap, ◌∙◌, subst, arith, lit<}
-use Rattle.std.proofs.lemmas.Fmt.{decimal_digit, decimal_step, decimal_by_steps, length-decimal-le}
-use Rattle.std.proofs.lemmas.List.{append_assoc, append-nil, length-append, length-replicate, replicate_more}
-use Rattle.std.proofs.lemmas.List.Sums.{fold_push}
-use Rattle.std.proofs.lemmas.Bool.{le-leb, ne_eqb, leb-true, eqb-true, eqb-false, cond_both, cond-true, cond-false, and_parts, and_from, false≢true}
-use Rattle.tape.specs.declared.fields.Field.{Field}
-use Rattle.tape.specs.declared.fields.Field.TheVariants.{Blank, Number, Silent, Bad}
-use Rattle.tape.specs.Fields.{digit, longer_of, begun_of, step_of, field_of, stands, entry_of}
+use Rattle.std.proofs.Common.{◌≡◌, ℕ, zero, suc, ◌-◌, ◌<◌, ◌≤◌, Bool, true, false, not, cond, ◌||◌, eqb, ltb, List, [], ◌∷◌, ◌++◌, length, get_or, replicate, decimal, option_map, Some, None, Ok, Err, Option, Result, sym, refl, ap, ◌∙◌, ⊎_elim, arith, lit<}
+use Rattle.std.specs.Str.{IsUtf8, all_ascii_digits}
+use Rattle.std.specs.Str.Parse.{digits_value, ParsesUnsigned}
+use Rattle.std.specs.Result.{result_ok}
+use Rattle.std.proofs.lemmas.Fmt.{decimal_digit, decimal_nonempty, first_decimal, digits_decimal, digits_value-decimal, decimal-digits_value, length-decimal-le, IsAscii-from_digits}
+use Rattle.std.proofs.lemmas.Str.{IsUtf8-from_ascii}
+use Rattle.std.proofs.lemmas.Str.Parse.{IsNumeralModel, numerals_by_value, tells_all_ascii_digits, parse_plain}
+use Rattle.std.proofs.lemmas.List.{length-append, length-replicate}
+use Rattle.std.proofs.lemmas.Bool.{le-leb, lt-ltb, ltb-true, leb-true, ne_eqb, eq-eqb, eqb-true, cond_both, cond-true, cond-false, and_parts, and_from, false≢true, cases_Bool, cases_eq}
+use Rattle.tape.specs.Fields.{text_of, is_dash, is_numeral, numeral_of, field_of, stands, entry_of}
 use Rattle.tape.specs.Format.{Entry, number, silent, justified, field_bytes, Fits}
+
+own : IsNumeralModel (λ ds. all_ascii_digits ds ≡ true) (digits_value 10)
+own = numerals_by_value _ tells_all_ascii_digits
+
+-- What a numeral is.
+
+record Numeral (text : List ℕ) : Type 0 where
+  some : 0 < length text
+  digits : all_ascii_digits text ≡ true
+  lead : get_or text 0 0 ≡ 48 → length text ≡ 1
+  most : digits_value 10 text < 65536
+
+lead_from : (a n : ℕ) → (not (eqb a 48) || eqb n 1) ≡ true → a ≡ 48 → n ≡ 1
+lead_from a n t e = eqb-true n 1 (sym (ap (λ b. not b || eqb n 1) (eq-eqb a 48 e)) ∙ t)
+
+or_true : (b : Bool) → (b || true) ≡ true
+or_true true = refl
+or_true false = refl
+
+lead_is : (a n : ℕ) → (a ≡ 48 → n ≡ 1) → (not (eqb a 48) || eqb n 1) ≡ true
+lead_is a n f =
+    ⊎_elim
+    (λ (e : a ≡ 48). ap (λ b. not (eqb a 48) || b) (eq-eqb n 1 (f e)) ∙ or_true (not (eqb a 48)))
+    (λ (ne : a ≡ 48 → ⊥). ap (λ b. not b || eqb n 1) (ne_eqb a 48 ne))
+    (cases_eq a 48)
+
+numeral_parts : (text : List ℕ) → is_numeral text ≡ true → Numeral text
+numeral_parts text t =
+    let one = and_parts (ltb 0 (length text)) _ t in
+    let two = and_parts (all_ascii_digits text) _ one.1 in
+    let three = and_parts (not (eqb (get_or text 0 0) 48) || eqb (length text) 1) _ two.1 in
+    record {
+      some = ltb-true 0 (length text) one.0;
+      digits = two.0;
+      lead = lead_from (get_or text 0 0) (length text) three.0;
+      most = let most = leb-true (digits_value 10 text) 65535 three.1 in omega arith;
+    }
+
+numeral_is : (text : List ℕ) → Numeral text → is_numeral text ≡ true
+numeral_is text n =
+    and_from _ _ (lt-ltb 0 (length text) n.some)
+    (and_from _ _ n.digits (and_from _ _ (lead_is (get_or text 0 0) (length text) n.lead) (le-leb (digits_value 10 text) 65535 (let most = n.most in omega arith))))
+
+no_numeral : (text : List ℕ) → (Numeral text → ⊥) → numeral_of text ≡ None
+no_numeral text none =
+    ⊎_elim
+    (λ (t : is_numeral text ≡ true). absurd (none (numeral_parts text t)))
+    (λ (f : is_numeral text ≡ false). cond-false (is_numeral text) (Some (digits_value 10 text)) None f)
+    (cases_Bool (is_numeral text))
+
+some_numeral : (text : List ℕ) → Numeral text → Some (digits_value 10 text) ≡ numeral_of text
+some_numeral text n = sym (cond-true (is_numeral text) (Some (digits_value 10 text)) None (numeral_is text n))
+
+-- What `parse` gives of a text that is no numeral, and of one.
+
+pub not_text : (text : List ℕ) → (IsUtf8 text → ⊥) → None ≡ numeral_of text
+not_text text invalid = sym (no_numeral text (λ n. invalid (IsUtf8-from_ascii text (IsAscii-from_digits text (own.to text n.digits)))))
+
+pub parsed : {E : Type 0} (text : List ℕ) (r : Result ℕ E) → ParsesUnsigned 16 10 text r → (get_or text 0 0 ≡ 43 → ⊥) → (get_or text 0 0 ≡ 48 → length text ≤ 1) → result_ok r ≡ numeral_of text
+parsed {E = E} text (Ok x) p plus lead =
+    let q = parse_plain own {E = E} 16 text (Ok x) p plus in
+    ap Some q.1 ∙ some_numeral text (record { some = q.0.1; digits = q.0.0; lead = λ e. let short = lead e in let some = q.0.1 in omega arith; most = q.0.2 })
+parsed {E = E} text (Err e) p plus lead =
+    let q = parse_plain own {E = E} 16 text (Err e) p plus in sym (no_numeral text (λ n. q (n.digits, n.some, n.most)))
+
+-- What columns say, by the text behind their blanks.
+
+dash_is : (text : List ℕ) → length text ≡ 1 → get_or text 0 0 ≡ 45 → is_dash text ≡ true
+dash_is [] one e = let none : ⊥ = omega arith in absurd none
+dash_is (b ∷ []) one e = eq-eqb b 45 e
+dash_is (b ∷ (c ∷ bs)) one e = let none : ⊥ = omega arith in absurd none
+
+no_dash : (text : List ℕ) → (length text ≡ 1 → get_or text 0 0 ≡ 45 → ⊥) → is_dash text ≡ false
+no_dash [] other = refl
+no_dash (b ∷ []) other = ne_eqb b 45 (other refl)
+no_dash (b ∷ (c ∷ bs)) other = refl
+
+pub says_dash : (columns text : List ℕ) → text ≡ text_of columns → length text ≡ 1 → get_or text 0 0 ≡ 45 → Some silent ≡ field_of columns
+unfolding field_of
+says_dash columns text e one d =
+    sym (cond-true (is_dash (text_of columns)) (Some silent) (option_map number (numeral_of (text_of columns))) (sym (ap is_dash e) ∙ dash_is text one d))
+
+pub says_number : (columns text : List ℕ) → text ≡ text_of columns → (length text ≡ 1 → get_or text 0 0 ≡ 45 → ⊥) → option_map number (numeral_of text) ≡ field_of columns
+unfolding field_of
+says_number columns text e other =
+    ap (λ t. option_map number (numeral_of t)) e
+    ∙ sym (cond-false (is_dash (text_of columns)) (Some silent) (option_map number (numeral_of (text_of columns))) (sym (ap is_dash e) ∙ no_dash text other))
 
 -- What is written is read.
 
-digit_is : (d : ℕ) → d < 10 → digit (48 + d) ≡ true
-digit_is d h = and_from _ _ (le-leb 48 (48 + d) (omega arith)) (le-leb (48 + d) 57 (omega arith))
+blanks_off : (k : ℕ) (text : List ℕ) → text_of (replicate k 32 ++ text) ≡ text_of text
+blanks_off zero text = refl
+blanks_off (suc k) text = blanks_off k text
 
-begun_digit : (d : ℕ) → d < 10 → begun_of (48 + d) ≡ Number d
-begun_digit d h =
-    let v : 48 + d - 48 ≡ d = omega arith in
-    cond-false (eqb (48 + d) 32) _ _ (ne_eqb (48 + d) 32 (λ e. omega arith))
-    ∙ cond-false (eqb (48 + d) 45) _ _ (ne_eqb (48 + d) 45 (λ e. omega arith))
-    ∙ cond-true (digit (48 + d)) _ _ (digit_is d h)
-    ∙ ap Number v
+-- digits begin with no blank, and are no dash
+digit_from : (d : ℕ) (ds : List ℕ) → all_ascii_digits (d ∷ ds) ≡ true → 48 ≤ d
+digit_from d ds t = (tells_all_ascii_digits.parts d ds t).0.0
 
-longer_digit : (m n : ℕ) → 10 ≤ n → n < 65536 → m ≡ n / 10 → step_of (Number m) (48 + n % 10) ≡ Number n
-longer_digit m n h lt e =
-    let d : n % 10 < 10 = omega arith in
-    let v : m * 10 + (48 + n % 10 - 48) ≡ n = omega arith in
-    cond-true (digit (48 + n % 10)) _ _ (digit_is (n % 10) d)
-    ∙ cond-false (eqb m 0) _ _ (ne_eqb m 0 (λ z. omega arith))
-    ∙ cond-true (leb (m * 10 + (48 + n % 10 - 48)) 65535) _ _ (le-leb _ 65535 (omega arith))
-    ∙ ap Number v
+digits_text : (ds : List ℕ) → all_ascii_digits ds ≡ true → text_of ds ≡ ds
+digits_text [] t = refl
+digits_text (d ∷ ds) t =
+    let low = digit_from d ds t in cond-false (eqb d 32) (text_of ds) (d ∷ ds) (ne_eqb d 32 (λ e. omega arith))
 
-number_run : (n : ℕ) → n < 2 ^ 64 → n < 65536 → fold step_of Blank (decimal n) ≡ Number n
-number_run =
-    decimal_by_steps (λ n ds. n < 65536 → fold step_of Blank ds ≡ Number n)
-    (λ n h lt. begun_digit n h)
-    (λ n ds h ih lt.
-    fold_push step_of Blank ds (48 + n % 10)
-    ∙ ap (λ f. step_of f (48 + n % 10)) (ih (omega arith))
-    ∙ longer_digit (n / 10) n h lt refl)
+digits_no_dash : (ds : List ℕ) → all_ascii_digits ds ≡ true → is_dash ds ≡ false
+digits_no_dash [] t = refl
+digits_no_dash (d ∷ []) t = let low = digit_from d [] t in ne_eqb d 45 (λ e. omega arith)
+digits_no_dash (d ∷ (c ∷ ds)) t = refl
 
-blanks_run : (k : ℕ) (xs : List ℕ) → fold step_of Blank (replicate k 32 ++ xs) ≡ fold step_of Blank xs
-blanks_run zero xs = refl
-blanks_run (suc k) xs = blanks_run k xs
+decimal_lead : (n : ℕ) → n < 65536 → get_or (decimal n) 0 0 ≡ 48 → length (decimal n) ≡ 1
+decimal_lead zero h e = ap length (decimal_digit 0 (lit< tt))
+decimal_lead (suc n) h e = let first = first_decimal (suc n) (omega arith) (omega arith) in let none : ⊥ = omega arith in absurd none
 
--- how a written field is read
-abbrev pub read_as : Entry → Field
-read_as (number n) = Number n
-read_as silent = Silent
+decimal_numeral : (n : ℕ) → n < 65536 → Numeral (decimal n)
+decimal_numeral n h =
+    let value = digits_value-decimal own n (omega arith) in
+    record {
+      some = decimal_nonempty n (omega arith);
+      digits = digits_decimal own n (omega arith);
+      lead = decimal_lead n h;
+      most = omega arith;
+    }
 
-pub field_written : (e : Entry) → Fits e → field_of (field_bytes e) ≡ read_as e
+pub field_written : (e : Entry) → Fits e → field_of (field_bytes e) ≡ Some e
 unfolding field_of
-field_written (number n) lt =
-    blanks_run (6 - length (decimal n)) (decimal n) ∙ number_run n (omega arith) lt
-field_written silent lt = refl
+field_written (number n) h =
+    let text = decimal n in
+    let numeral = decimal_numeral n h in
+    let e = blanks_off (6 - length text) text ∙ digits_text text numeral.digits in
+    ap (λ t. cond (is_dash t) (Some silent) (option_map number (numeral_of t))) e
+    ∙ cond-false (is_dash text) (Some silent) (option_map number (numeral_of text)) (digits_no_dash text numeral.digits)
+    ∙ ap (option_map number) (sym (some_numeral text numeral))
+    ∙ ap (λ v. Some (number v)) (digits_value-decimal own n (omega arith))
+field_written silent h = refl
 
 -- a field has six columns
 pub length_field : (e : Entry) → Fits e → length (field_bytes e) ≡ 6
-length_field (number n) lt =
+length_field (number n) h =
     let short : length (decimal n) ≤ 5 = length-decimal-le 5 n (lit< tt) (omega arith) (omega arith) in
     simp (length-append, length-replicate) (omega arith)
-length_field silent lt = refl
-
-pub stands_as : (e : Entry) → stands (read_as e) ≡ true
-stands_as (number n) = refl
-stands_as silent = refl
-
-pub entry_as : (e : Entry) → entry_of (read_as e) ≡ e
-entry_as (number n) = refl
-entry_as silent = refl
+length_field silent h = refl
 
 -- What is read is written.
 
--- what the columns so far are, by what they say
-abbrev Form : Field → List ℕ → Type 0
-Form Blank p = (k : ℕ) × (p ≡ replicate k 32)
-Form (Number n) p = (k : ℕ) × (n < 65536) × (p ≡ replicate k 32 ++ decimal n)
-Form Silent p = (k : ℕ) × (p ≡ replicate k 32 ++ (45 ∷ []))
-Form Bad p = Unit {0}
-
-first_digit : (p : List ℕ) (b k : ℕ) → p ≡ replicate k 32 → digit b ≡ true → Form (Number (b - 48)) (p ++ (b ∷ []))
-first_digit p b k e t =
-    let low : 48 ≤ b = leb-true 48 b (and_parts (leb 48 b) (leb b 57) t).0 in
-    let high : b ≤ 57 = leb-true b 57 (and_parts (leb 48 b) (leb b 57) t).1 in
-    let v : 48 + (b - 48) ≡ b = omega arith in
-    (k, omega arith, ap (λ q. q ++ (b ∷ [])) e ∙ ap (λ x. replicate k 32 ++ (x ∷ [])) (sym v) ∙ ap (λ ds. replicate k 32 ++ ds) (sym (decimal_digit (b - 48) (omega arith))))
-
-ten_more : (n b : ℕ) → (n ≡ 0 → ⊥) → 10 ≤ n * 10 + (b - 48)
-ten_more zero b some = absurd (some refl)
-ten_more (suc n) b some = omega arith
-
-next_digit : (p : List ℕ) (b k n : ℕ) → p ≡ replicate k 32 ++ decimal n → digit b ≡ true → (n ≡ 0 → ⊥) → n * 10 + (b - 48) ≤ 65535 → Form (Number (n * 10 + (b - 48))) (p ++ (b ∷ []))
-next_digit p b k n e t some most =
-    let low : 48 ≤ b = leb-true 48 b (and_parts (leb 48 b) (leb b 57) t).0 in
-    let high : b ≤ 57 = leb-true b 57 (and_parts (leb 48 b) (leb b 57) t).1 in
-    let front : (n * 10 + (b - 48)) / 10 ≡ n = omega arith in
-    let back : 48 + (n * 10 + (b - 48)) % 10 ≡ b = omega arith in
-    let some' : 10 ≤ n * 10 + (b - 48) = ten_more n b some in
-    let d = decimal_step (n * 10 + (b - 48)) some' (omega arith) ∙ ap (λ x. decimal x ++ ((48 + (n * 10 + (b - 48)) % 10) ∷ [])) front ∙ ap (λ x. decimal n ++ (x ∷ [])) back in
-    (k, omega arith, ap (λ q. q ++ (b ∷ [])) e ∙ append_assoc (replicate k 32) (decimal n) (b ∷ []) ∙ ap (λ ds. replicate k 32 ++ ds) (sym d))
-
-step_form : (f : Field) (p : List ℕ) (b : ℕ) → Form f p → Form (step_of f b) (p ++ (b ∷ []))
-step_form Blank p b (k, e) =
-    let P : Field → Type 0 = λ f. Form f (p ++ (b ∷ [])) in
-    cond_both (eqb b 32) Blank _ P
-    (λ t. (k + 1, ap (λ q. q ++ (b ∷ [])) e ∙ ap (λ x. replicate k 32 ++ (x ∷ [])) (eqb-true b 32 t) ∙ replicate_more k 32))
-    (λ _.
-    cond_both (eqb b 45) Silent _ P
-    (λ t. (k, ap (λ q. q ++ (b ∷ [])) e ∙ ap (λ x. replicate k 32 ++ (x ∷ [])) (eqb-true b 45 t)))
-    (λ _. cond_both (digit b) (Number (b - 48)) Bad P (first_digit p b k e) (λ _. tt)))
-step_form (Number n) p b (k, lt, e) =
-    let P : Field → Type 0 = λ f. Form f (p ++ (b ∷ [])) in
-    cond_both (digit b) (longer_of n (b - 48)) Bad P
-    (λ t.
-    cond_both (eqb n 0) Bad _ P (λ _. tt)
-    (λ z. cond_both (leb (n * 10 + (b - 48)) 65535) (Number (n * 10 + (b - 48))) Bad P
-    (λ most. next_digit p b k n e t (eqb-false n 0 z) (leb-true _ 65535 most)) (λ _. tt)))
-    (λ _. tt)
-step_form Silent p b f = tt
-step_form Bad p b f = tt
-
-runs : (xs : List ℕ) (f : Field) (p : List ℕ) → Form f p → Form (fold step_of f xs) (p ++ xs)
-runs [] f p g = let P : List ℕ → Type 0 = λ q. Form f q in subst P (sym (append-nil p)) g
-runs (x ∷ xs) f p g =
-    let P : List ℕ → Type 0 = λ q. Form (fold step_of (step_of f x) xs) q in
-    subst P (append_assoc p (x ∷ []) xs) (runs xs (step_of f x) (p ++ (x ∷ [])) (step_form f p x g))
-
-form_of : (xs : List ℕ) → Form (field_of xs) xs
-unfolding field_of
-form_of xs = runs xs Blank [] (0, refl)
+-- columns are blanks and the text behind them
+behind_blanks : (xs : List ℕ) → (k : ℕ) × (xs ≡ replicate k 32 ++ text_of xs)
+behind_blanks [] = (0, refl)
+behind_blanks (x ∷ xs) =
+    cond_both (eqb x 32) (text_of xs) (x ∷ xs) (λ (t : List ℕ). (k : ℕ) × (x ∷ xs ≡ replicate k 32 ++ t))
+    (λ blank. let r = behind_blanks xs in (suc r.0, ap (λ y. y ∷ xs) (eqb-true x 32 blank) ∙ ap (λ ys. 32 ∷ ys) r.1))
+    (λ _. (0, refl))
 
 justify : (xs text : List ℕ) (k : ℕ) → xs ≡ replicate k 32 ++ text → length xs ≡ 6 → xs ≡ justified text
 justify xs text k e six =
     let n : k ≡ 6 - length text = omega (arith, simp (length-append, length-replicate) at (ap length e)) in
     e ∙ ap (λ j. replicate j 32 ++ text) n
 
--- six columns that say something are what it is written as
-from_form : (f : Field) (xs : List ℕ) → Form f xs → length xs ≡ 6 → stands f ≡ true → Fits (entry_of f) × (xs ≡ field_bytes (entry_of f))
-from_form Blank xs g six t = absurd (false≢true t)
-from_form (Number n) xs (k, lt, e) six t = (lt, justify xs (decimal n) k e six)
-from_form Silent xs (k, e) six t = (tt, justify xs (45 ∷ []) k e six)
-from_form Bad xs g six t = absurd (false≢true t)
+dash_text : (text : List ℕ) → is_dash text ≡ true → text ≡ 45 ∷ []
+dash_text [] t = absurd (false≢true t)
+dash_text (b ∷ []) t = ap (λ x. x ∷ []) (eqb-true b 45 t)
+dash_text (b ∷ (c ∷ bs)) t = absurd (false≢true t)
 
+numeral_text : (text : List ℕ) → Numeral text → decimal (digits_value 10 text) ≡ text
+numeral_text text n = decimal-digits_value own text n.digits n.some n.lead (let most = n.most in omega arith)
+
+-- what columns that say an entry are
+abbrev Form : List ℕ → Option Entry → Type 0
+Form xs None = Unit {0}
+Form xs (Some e) = Fits e × (xs ≡ field_bytes e)
+
+form_of : (xs : List ℕ) → length xs ≡ 6 → Form xs (field_of xs)
+unfolding field_of
+form_of xs six =
+    let r = behind_blanks xs in
+    let text = text_of xs in
+    cond_both (is_dash text) (Some silent) (option_map number (numeral_of text)) (Form xs)
+    (λ dash. (tt, justify xs (45 ∷ []) r.0 (r.1 ∙ ap (λ t. replicate r.0 32 ++ t) (dash_text text dash)) six))
+    (λ _.
+    cond_both (is_numeral text) (Some (digits_value 10 text)) None (λ (o : Option ℕ). Form xs (option_map number o))
+    (λ t.
+    let n = numeral_parts text t in
+    (n.most, justify xs (decimal (digits_value 10 text)) r.0 (r.1 ∙ ap (λ t. replicate r.0 32 ++ t) (sym (numeral_text text n))) six))
+    (λ _. tt))
+
+from_form : (xs : List ℕ) (f : Option Entry) → Form xs f → stands f ≡ true → Fits (entry_of f) × (xs ≡ field_bytes (entry_of f))
+from_form xs None form t = absurd (false≢true t)
+from_form xs (Some e) form t = form
+
+-- six columns that say something are what it is written as
 pub field_read : (xs : List ℕ) → length xs ≡ 6 → stands (field_of xs) ≡ true → Fits (entry_of (field_of xs)) × (xs ≡ field_bytes (entry_of (field_of xs)))
-field_read xs = from_form (field_of xs) xs (form_of xs)
+field_read xs six = from_form xs (field_of xs) (form_of xs six)

@@ -1,6 +1,7 @@
 mod Columns
 mod Lines
+mod Pieces
 mod Tapes
 mod Plays
+mod Written
 mod Calls
-mod Digits

@@ -1,27 +1,32 @@
 -- A line, field by field. Assumes nothing.
-use Rattle.std.proofs.Common.{◌≡◌, ℕ, zero, suc, ◌+◌, ◌-◌, ◌*◌, ◌<◌, Bool, true, false, cond, eqb, List, [], ◌∷◌, ◌++◌, length, get_or, take, drop, sym, refl, ap, ◌∙◌, arith}
+use Rattle.std.proofs.Common.{◌≡◌, ℕ, zero, suc, ◌+◌, ◌*◌, ◌/◌, ◌<◌, ◌&&◌, Bool, true, false, cond, eqb, List, [], ◌∷◌, ◌++◌, length, get_or, take, drop, sym, refl, ap, ◌∙◌, arith}
 use Rattle.std.proofs.lemmas.List.{append_assoc, drop-drop, get_or-drop, take-append-drop, take_at, drop_at, length-append, length-take-le, length-drop, nil_from_length}
 use Rattle.std.proofs.lemmas.Bool.{eqb-true, false≢true}
 use Rattle.tape.specs.Fields.{field_of, stands, entry_of, line_good, line_holds, entries_of, line_says}
 use Rattle.tape.specs.Format.{Entry, silent, Fits, AllFit, Line, field_bytes, fields_bytes, line_bytes}
-use Rattle.tape.proofs.Columns.{field_read, field_written, length_field, stands_as, entry_as}
+use Rattle.std.specs.List.{list_all}
+use Rattle.tape.proofs.Pieces.{pieces}
+use Rattle.tape.proofs.Columns.{field_read, field_written, length_field}
 
-rest : (xs : List ℕ) (k : ℕ) → drop 6 (drop (6 * k) xs) ≡ drop (6 * (k + 1)) xs
-rest xs k = let e : 6 * k + 6 ≡ 6 * (k + 1) = omega arith in drop-drop 6 (6 * k) xs ∙ ap (λ n. drop n xs) e
+-- fields that stand, one behind the other, and what is behind them
+fields_stand : (b : Bool) (d e : Bool) → cond b (d && e) false ≡ ((b && d) && e)
+fields_stand true d e = refl
+fields_stand false d e = refl
 
-opens : (xs : List ℕ) (k : ℕ) → k < 8 → line_good (8 - k) (drop (6 * k) xs) ≡ cond (stands (field_of (take 6 (drop (6 * k) xs)))) (line_good (8 - (k + 1)) (drop (6 * (k + 1)) xs)) false
-opens xs k h =
-    let e : 8 - k ≡ suc (8 - (k + 1)) = omega arith in
-    ap (λ n. line_good n (drop (6 * k) xs)) e ∙ ap (λ ys. cond (stands (field_of (take 6 (drop (6 * k) xs)))) (line_good (8 - (k + 1)) ys) false) (rest xs k)
+good_by_fields : (n : ℕ) (xs : List ℕ) → line_good n xs ≡ (list_all (λ f. stands (field_of f)) (pieces 6 n xs) && eqb (get_or xs (6 * n) 0) 10)
+good_by_fields zero xs = refl
+good_by_fields (suc n) xs =
+    let e : 6 + 6 * n ≡ 6 * suc n = omega arith in
+    ap (λ b. cond (stands (field_of (take 6 xs))) b false) (good_by_fields n (drop 6 xs))
+    ∙ fields_stand (stands (field_of (take 6 xs))) (list_all (λ f. stands (field_of f)) (pieces 6 n (drop 6 xs))) (eqb (get_or (drop 6 xs) (6 * n) 0) 10)
+    ∙ ap (λ b. list_all (λ f. stands (field_of f)) (pieces 6 (suc n) xs) && eqb b 10) (get_or-drop 6 xs (6 * n) 0 ∙ ap (λ j. get_or xs j 0) e)
 
-pub line_more : (xs : List ℕ) (k : ℕ) → k < 8 → stands (field_of (take 6 (drop (6 * k) xs))) ≡ true → line_good (8 - (k + 1)) (drop (6 * (k + 1)) xs) ≡ line_good (8 - k) (drop (6 * k) xs)
-line_more xs k h t = sym (opens xs k h ∙ ap (λ b. cond b (line_good (8 - (k + 1)) (drop (6 * (k + 1)) xs)) false) t)
-
-pub line_stops : (xs : List ℕ) (k : ℕ) → k < 8 → stands (field_of (take 6 (drop (6 * k) xs))) ≡ false → line_good (8 - k) (drop (6 * k) xs) ≡ false
-line_stops xs k h t = opens xs k h ∙ ap (λ b. cond b (line_good (8 - (k + 1)) (drop (6 * (k + 1)) xs)) false) t
-
-pub line_ends : (xs : List ℕ) (k : ℕ) → k ≡ 8 → line_good (8 - k) (drop (6 * k) xs) ≡ eqb (get_or xs 48 0) 10
-line_ends xs k e = ap (λ n. line_good (8 - n) (drop (6 * n) xs)) e ∙ ap (λ b. eqb b 10) (get_or-drop 48 xs 0 0)
+-- by whether its fields stand
+pub holds_by_fields : (xs : List ℕ) (b : Bool) → length xs ≡ 49 → b ≡ list_all (λ f. stands (field_of f)) (pieces 6 (length xs / 6) xs) → (b && eqb (get_or xs 48 0) 10) ≡ line_holds xs
+unfolding line_holds
+holds_by_fields xs b long e =
+    let n : length xs / 6 ≡ 8 = omega arith in
+    ap (λ d. d && eqb (get_or xs 48 0) 10) (e ∙ ap (λ k. list_all (λ f. stands (field_of f)) (pieces 6 k xs)) n) ∙ sym (good_by_fields 8 xs)
 
 -- Lines are read as they are written.
 
@@ -85,10 +90,8 @@ fields_back (suc n) (e ∷ es) count (fit, fits) =
     let f = ap field_of (front e es fit) ∙ field_written e fit in
     record {
       holds = ap (λ x. cond (stands x) (line_good n (drop 6 (line_bytes (e ∷ es)))) false) f
-          ∙ ap (λ b. cond b (line_good n (drop 6 (line_bytes (e ∷ es)))) false) (stands_as e)
           ∙ ap (line_good n) (behind e es fit) ∙ rest.holds;
       says = ap (λ x. entry_of x ∷ entries_of n (drop 6 (line_bytes (e ∷ es)))) f
-          ∙ ap (λ x. x ∷ entries_of n (drop 6 (line_bytes (e ∷ es)))) (entry_as e)
           ∙ ap (λ ys. e ∷ entries_of n ys) (behind e es fit) ∙ ap (λ ys. e ∷ ys) rest.says;
     }
 

@@ -1,6 +1,6 @@
 -- Tapes are accepted as they are written, and refused at the first bad line. Assumes nothing.
-use Rattle.std.proofs.Common.{◌≡◌, ℕ, zero, suc, ◌+◌, ◌-◌, ◌*◌, ◌/◌, ◌%◌, ◌<◌, ◌≤◌, true, false, cond, eqb, leb, ◌⊎◌, List, [], ◌∷◌, ◌++◌, length, take, drop, Some, None, Ok, Err, Option, Result, sym, refl, ap, ◌∙◌, inl, inr, ⊎_elim, arith}
-use Rattle.std.proofs.lemmas.List.{append_assoc, append-nil, drop-drop, take-append-drop, take_at, drop_at, length-append, length-take-le, length-drop, nil_from_length}
+use Rattle.std.proofs.Common.{◌≡◌, ℕ, zero, suc, ◌+◌, ◌*◌, ◌/◌, ◌%◌, ◌<◌, ◌≤◌, Bool, true, false, not, cond, eqb, leb, ltb, ◌⊎◌, List, [], ◌∷◌, ◌++◌, length, take, drop, option_map, Some, None, Ok, Err, Option, Result, sym, refl, ap, ◌∙◌, subst, inl, inr, ⊎_elim, arith}
+use Rattle.std.proofs.lemmas.List.{append_assoc, append-nil, take-append-drop, take_at, drop_at, length-append, length-take-le, length-drop, nil_from_length}
 use Rattle.std.proofs.lemmas.Bool.{true≢false, cases_Bool, cond_both, cond-true, cond-false, le-leb, lt-leb, leb-true, leb-false, eq-eqb, ne_eqb, eqb-true, eqb-false}
 use Rattle.tape.specs.declared.TapeFault.{TapeFault}
 use Rattle.tape.specs.declared.TapeFault.TheVariants.{Length, Line}
@@ -8,6 +8,9 @@ use Rattle.tape.specs.Fields.{line_holds, line_says}
 use Rattle.tape.specs.Format.{Entry, Line as GoodLine, AllLines, IsTape, line_bytes, tape_bytes}
 use Rattle.tape.specs.Says.{State, first_bad, unless_bad, check_of, started, opened}
 use Rattle.tape.specs.Verdict.{BadAfter, Verdict, OneVerdict}
+use Rattle.std.specs.List.{position_from, position_or_len}
+use Rattle.std.proofs.lemmas.Iterator.Adapters.{position_from-zero}
+use Rattle.tape.proofs.Pieces.{pieces}
 use Rattle.tape.proofs.Lines.{line_read, line_written, line_back, length_line}
 
 pub length_tape : (lines : List (List Entry)) → AllLines lines → length (tape_bytes lines) ≡ 49 * length lines
@@ -17,18 +20,21 @@ length_tape (l ∷ ls) (good, more) =
 
 -- The first bad line, line by line.
 
-bad_unfold : (xs : List ℕ) (n count : ℕ) → n < count → first_bad n (count - n) (drop (49 * n) xs) ≡ cond (line_holds (take 49 (drop (49 * n) xs))) (first_bad (n + 1) (count - (n + 1)) (drop (49 * (n + 1)) xs)) (Some (n + 1))
-bad_unfold xs n count h =
-    let e : count - n ≡ suc (count - (n + 1)) = omega arith in
-    let f : 49 * n + 49 ≡ 49 * (n + 1) = omega arith in
-    ap (λ m. first_bad n m (drop (49 * n) xs)) e
-    ∙ ap (λ ys. cond (line_holds (take 49 (drop (49 * n) xs))) (first_bad (n + 1) (count - (n + 1)) ys) (Some (n + 1))) (drop-drop 49 (49 * n) xs ∙ ap (λ j. drop j xs) f)
+one_line : (b : Bool) (o : Option ℕ) (k : ℕ) → cond b (option_map (λ j. j + 1) o) (Some (k + 1)) ≡ option_map (λ j. j + 1) (cond (not b) (Some k) o)
+one_line true o k = refl
+one_line false o k = refl
 
-pub bad_more : (xs : List ℕ) (n count : ℕ) → n < count → line_holds (take 49 (drop (49 * n) xs)) ≡ true → first_bad (n + 1) (count - (n + 1)) (drop (49 * (n + 1)) xs) ≡ first_bad n (count - n) (drop (49 * n) xs)
-bad_more xs n count h t = sym (bad_unfold xs n count h ∙ cond-true (line_holds (take 49 (drop (49 * n) xs))) _ _ t)
+bad_from : (n k : ℕ) (xs : List ℕ) → first_bad k n xs ≡ option_map (λ j. j + 1) (position_from (λ l. not (line_holds l)) k (pieces 49 n xs))
+bad_from zero k xs = refl
+bad_from (suc n) k xs =
+    ap (λ o. cond (line_holds (take 49 xs)) o (Some (k + 1))) (bad_from n (k + 1) (drop 49 xs))
+    ∙ one_line (line_holds (take 49 xs)) (position_from (λ l. not (line_holds l)) (k + 1) (pieces 49 n (drop 49 xs))) k
 
-pub bad_here : (xs : List ℕ) (n count : ℕ) → n < count → line_holds (take 49 (drop (49 * n) xs)) ≡ false → first_bad n (count - n) (drop (49 * n) xs) ≡ Some (n + 1)
-bad_here xs n count h f = bad_unfold xs n count h ∙ cond-false (line_holds (take 49 (drop (49 * n) xs))) _ _ f
+-- by the place of the first line that is none
+pub first_bad_at : (xs : List ℕ) (r : Option ℕ) → r ≡ cond (ltb (position_or_len (λ l. not (line_holds l)) (pieces 49 (length xs / 49) xs)) (length (pieces 49 (length xs / 49) xs))) (Some (position_or_len (λ l. not (line_holds l)) (pieces 49 (length xs / 49) xs))) None → option_map (λ j. j + 1) r ≡ first_bad 0 (length xs / 49) xs
+first_bad_at xs r e =
+    let lines = pieces 49 (length xs / 49) xs in
+    ap (option_map (λ j. j + 1)) (e ∙ position_from-zero (λ l. not (line_holds l)) lines) ∙ sym (bad_from (length xs / 49) 0 xs)
 
 -- The check, case by case.
 
@@ -141,6 +147,12 @@ verdict_holds bytes =
     verdict_at bytes n (first_bad 0 n bytes) (leb-true (length bytes) 65536 s) whole (outcome n 0 bytes long))
     (λ w. inr (eqb-false (length bytes % 49) 0 w)))
     (λ s. inl (leb-false (length bytes) 65536 s))
+
+-- what is accepted is a tape
+pub accepted : (bytes : List ℕ) → Ok tt ≡ check_of bytes → (lines : List (List Entry)) × IsTape bytes lines
+accepted bytes e =
+    let P : Result State TapeFault → Type 0 = Verdict bytes in
+    (subst P (ap (started bytes) (sym e)) (verdict_holds bytes)).1
 
 -- No other verdict.
 

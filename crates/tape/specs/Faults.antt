@@ -1,7 +1,8 @@
 -- Number, layer and place of each fault of a tape. Assumes nothing.
-use Rattle.std.specs.Prelude.{ℕ}
+use Rattle.std.specs.Prelude.{ℕ, refl}
 use Rattle.faults.specs.declared.Layer.{Layer}
 use Rattle.faults.specs.declared.Layer.TheVariants.{Panel}
+use Rattle.faults.specs.Layers.{CauseOfItsLayer}
 use Rattle.tape.specs.declared.TapeFault.{TapeFault}
 use Rattle.tape.specs.declared.TapeFault.TheVariants.{Length, Line}
 
@@ -16,3 +17,8 @@ layer_of e = Panel
 abbrev pub place_of : TapeFault → ℕ
 place_of Length = 0
 place_of (Line n) = n
+
+-- the cause is one of the panel layer
+pub causes_of_tapes : CauseOfItsLayer cause_of layer_of
+causes_of_tapes Length = refl
+causes_of_tapes (Line n) = refl

@@ -1,41 +1,38 @@
--- How fields and lines are read, column by column. Assumes nothing.
-use Rattle.std.specs.Prelude.{ℕ, zero, suc, ◌+◌, ◌-◌, ◌*◌, Bool, true, false, cond, ◌&&◌, List, [], ◌∷◌, take, drop, fold, ◌==◌, nat_le, slice_index}
-use Rattle.tape.specs.declared.fields.Field.{Field}
-use Rattle.tape.specs.declared.fields.Field.TheVariants.{Blank, Number, Silent, Bad}
+-- How fields and lines are read. Assumes nothing.
+use Rattle.std.specs.Prelude.{ℕ, zero, suc, Bool, false, cond, not, ◌&&◌, ◌||◌, List, [], ◌∷◌, length, take, drop, Some, None, Option, ◌==◌, nat_le, nat_lt, slice_index, is_some, option_map}
+use Rattle.std.specs.Option.{unwrap_or}
+use Rattle.std.specs.Str.{all_ascii_digits}
+use Rattle.std.specs.Str.Parse.{digits_value}
 use Rattle.tape.specs.Format.{Entry, number, silent}
 
-abbrev pub digit : ℕ → Bool
-digit b = nat_le 48 b && nat_le b 57
+-- what stands behind the blanks
+abbrev pub text_of : List ℕ → List ℕ
+text_of [] = []
+text_of (b ∷ bs) = cond (b == 32) (text_of bs) (b ∷ bs)
 
--- a number with one more digit: it has no leading zero and is at most 65,535
-abbrev pub longer_of : ℕ → ℕ → Field
-longer_of n d = cond (n == 0) Bad (cond (nat_le (n * 10 + d) 65535) (Number (n * 10 + d)) Bad)
+abbrev pub is_dash : List ℕ → Bool
+is_dash [] = false
+is_dash (b ∷ []) = b == 45
+is_dash (b ∷ (c ∷ bs)) = false
 
--- the first byte behind blanks
-abbrev pub begun_of : ℕ → Field
-begun_of b = cond (b == 32) Blank (cond (b == 45) Silent (cond (digit b) (Number (b - 48)) Bad))
+-- digits with no leading zero, of a number of at most 65,535
+abbrev pub is_numeral : List ℕ → Bool
+is_numeral text =
+    nat_lt 0 (length text) && (all_ascii_digits text && ((not (slice_index text 0 == 48) || length text == 1) && nat_le (digits_value 10 text) 65535))
 
-abbrev pub step_of : Field → ℕ → Field
-step_of Blank b = begun_of b
-step_of (Number n) b = cond (digit b) (longer_of n (b - 48)) Bad
-step_of Silent b = Bad
-step_of Bad b = Bad
+abbrev pub numeral_of : List ℕ → Option ℕ
+numeral_of text = cond (is_numeral text) (Some (digits_value 10 text)) None
 
-unfoldable pub field_of : List ℕ → Field
-field_of bytes = fold step_of Blank bytes
+-- what columns say, if they are a field: a dash or a number, behind blanks
+unfoldable pub field_of : List ℕ → Option Entry
+field_of bytes = cond (is_dash (text_of bytes)) (Some silent) (option_map number (numeral_of (text_of bytes)))
 
--- whether a field is a number or a dash
-abbrev pub stands : Field → Bool
-stands Blank = false
-stands (Number n) = true
-stands Silent = true
-stands Bad = false
+-- whether columns are a field
+abbrev pub stands : Option Entry → Bool
+stands field = is_some field
 
-abbrev pub entry_of : Field → Entry
-entry_of Blank = silent
-entry_of (Number n) = number n
-entry_of Silent = silent
-entry_of Bad = silent
+abbrev pub entry_of : Option Entry → Entry
+entry_of field = unwrap_or field silent
 
 -- n fields, each of six columns, and a line feed
 abbrev pub line_good : ℕ → List ℕ → Bool

@@ -4,3 +4,4 @@ pub mod Fields
 pub mod Says
 pub mod Verdict
 pub mod Writing
+pub mod Tape

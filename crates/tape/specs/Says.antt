@@ -1,8 +1,6 @@
 -- What a tape's bytes say line by line, what its panel means, and what moving it on does. Assumes nothing.
-use Rattle.std.specs.Prelude.{ℕ, zero, suc, ◌+◌, ◌*◌, ◌/◌, ◌%◌, true, cond, List, ◌∷◌, map, length, take, drop, replicate, Some, None, Ok, Err, Option, Result, ◌==◌, nat_le, nat_lt, slice_index}
-use Rattle.std.specs.List.{range_with_len}
+use Rattle.std.specs.Prelude.{ℕ, zero, suc, ◌+◌, ◌*◌, ◌/◌, ◌%◌, true, cond, List, map, length, take, drop, replicate, Some, None, Ok, Err, Option, Result, ◌==◌, nat_le, nat_lt}
 use Rattle.panel.specs.Meaning.{Meaning}
-use Rattle.tape.specs.declared.Tape.{Tape}
 use Rattle.tape.specs.declared.TapeFault.{TapeFault}
 use Rattle.tape.specs.declared.TapeFault.TheVariants.{Length, Line}
 use Rattle.tape.specs.Fields.{line_holds, line_says}
@@ -32,13 +30,6 @@ pub record State : Type 0 where
   pub at : ℕ
   pub outputs : List ℕ
 
--- eight words, whatever list they stand in
-abbrev pub eight_of : List ℕ → List ℕ
-eight_of words = map (λ k. slice_index words k) (range_with_len 0 8)
-
-abbrev pub state : Tape → State
-state t = record { bytes = t.bytes.now; at = t.line; outputs = eight_of t.outputs }
-
 abbrev pub start : List ℕ → State
 start bytes = record { bytes = bytes; at = 0; outputs = replicate 8 0 }
 
@@ -49,10 +40,6 @@ started bytes (Err e) = Err e
 
 abbrev pub opened : List ℕ → Result State TapeFault
 opened bytes = started bytes (check_of bytes)
-
-abbrev pub shown : Result Tape TapeFault → Result State TapeFault
-shown (Ok t) = Ok (state t)
-shown (Err e) = Err e
 
 -- a line on, up to behind the last
 abbrev pub moved : State → State
@@ -73,10 +60,3 @@ meant entries outputs = record {
 
 abbrev pub state_meaning : State → Meaning
 state_meaning s = meant (said s.bytes s.at) s.outputs
-
-abbrev pub tape_meaning : Tape → Meaning
-tape_meaning t = state_meaning (state t)
-
--- what the panel has besides its meaning: where the tape stands, and its bytes
-abbrev pub tape_rest : Tape → List ℕ
-tape_rest t = t.line ∷ t.bytes.now

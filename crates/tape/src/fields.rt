@@ -1,70 +1,41 @@
 // Fields and lines of a tape.
-ghost use Rattle.std.specs.Prelude.{◌≡◌, ◌+◌, ◌≤◌, length};
-ghost use Rattle.tape.specs.Fields.{longer_of, begun_of, step_of, field_of, stands, line_holds};
+ghost use Rattle.std.specs.Prelude.{◌≡◌, length, option_map};
+ghost use Rattle.std.specs.Result.{result_ok};
+ghost use Rattle.tape.specs.Fields.{text_of, numeral_of, field_of, line_holds};
+ghost use Rattle.tape.specs.Writing.{entry_from};
 
-// What the columns of a field say so far.
+use std::str;
+
+// Six columns that are no field.
 #[derive(Clone, Copy)]
-pub(crate) enum Field {
-    Blank,
-    Number(u16),
-    Silent,
-    Bad,
+pub(crate) struct BadField;
+
+fn without_blanks(mut columns: &[u8]) -> &[u8]
+    ensures { result.now ≡ text_of columns.now }
+{
+    while let [b' ', rest @ ..] = columns {
+        columns = rest;
+    }
+    columns
 }
 
-// A number with one more digit.
-fn longer(n: u16, digit: u8) -> Field
-    ensures { result ≡ longer_of n digit }
+// A number with no sign and no leading zeros.
+fn read_number(text: &[u8]) -> Option<u16>
+    ensures { result ≡ numeral_of text.now }
 {
-    let value = u32::from(n) * 10 + u32::from(digit);
-    if n == 0 || value > 65535 {
-        Field::Bad
-    } else {
-        Field::Number(value as u16)
+    match text {
+        [b'+', ..] | [b'0', _, ..] => None,
+        _ => str::from_utf8(text).ok()?.parse().ok(),
     }
 }
 
-// The first byte behind blanks.
-fn begun(byte: u8) -> Field
-    ensures { result ≡ begun_of byte }
+// What a field says: a number, or `None` for a dash.
+pub(crate) fn read_field(columns: &[u8]) -> Result<Option<u16>, BadField>
+    ensures { option_map entry_from (result_ok result) ≡ field_of columns.now }
 {
-    match byte {
-        b' ' => Field::Blank,
-        b'-' => Field::Silent,
-        b'0'..=b'9' => Field::Number(u16::from(byte - b'0')),
-        _ => Field::Bad,
-    }
-}
-
-fn step(field: Field, byte: u8) -> Field
-    ensures { result ≡ step_of field byte }
-{
-    match field {
-        Field::Blank => begun(byte),
-        Field::Number(n) => match byte {
-            b'0'..=b'9' => longer(n, byte - b'0'),
-            _ => Field::Bad,
-        },
-        Field::Silent | Field::Bad => Field::Bad,
-    }
-}
-
-// What a field says.
-pub(crate) fn read_field(bytes: &[u8]) -> Field
-    ensures { result ≡ field_of bytes.now }
-{
-    let mut field = Field::Blank;
-    for byte in bytes {
-        field = step(field, *byte);
-    }
-    field
-}
-
-fn is_entry(field: Field) -> bool
-    ensures { result ≡ stands field }
-{
-    match field {
-        Field::Number(_) | Field::Silent => true,
-        Field::Blank | Field::Bad => false,
+    match without_blanks(columns) {
+        [b'-'] => Ok(None),
+        text => read_number(text).map(Some).ok_or(BadField),
     }
 }
 
@@ -73,10 +44,5 @@ pub(crate) fn is_line(line: &[u8]) -> bool
     requires { length line.now ≡ 49 }
     ensures { result ≡ line_holds line.now }
 {
-    for k in 0..8 {
-        if !is_entry(read_field(&line[6 * k..6 * k + 6])) {
-            return false;
-        }
-    }
-    line[48] == b'\n'
+    line.chunks_exact(6).all(|field| read_field(field).is_ok()) && line[48] == b'\n'
 }

@@ -1,7 +1,8 @@
 -- Functions of a word that treat words alike which differ only in the values of digits. Assumes nothing.
-use Rattle.std.proofs.Common.{◌≡◌, ℕ, suc, ◌+◌, ◌-◌, ◌*◌, Bool, true, false, cond, eqb, ◌⊎◌, List, [], ◌∷◌, length, get_or, drop, is_some, Some, None, Ok, Err, Option, Result, sym, refl, ap, ◌∙◌, inl, inr, arith}
+use Rattle.std.proofs.Common.{◌≡◌, ℕ, suc, ◌+◌, ◌-◌, ◌*◌, Bool, true, false, cond, eqb, ◌⊎◌, List, [], ◌∷◌, length, get_or, drop, map, is_some, Some, None, Ok, Err, Option, Result, sym, refl, ap, ◌∙◌, inl, inr, arith}
 use Rattle.std.proofs.lemmas.Bool.{false≢true, cond-true}
 use Rattle.std.proofs.lemmas.Bool.Decides.{nat_tests}
+use Rattle.std.proofs.lemmas.List.{length-map}
 use Rattle.tokens.specs.declared.WordFault.{WordFault}
 use Rattle.tokens.specs.declared.WordFault.TheVariants.{Unlisted, OutOfRange}
 use Rattle.tokens.specs.Numbers.{between, digit, value_after, value_of, ranged, shaped, any}
@@ -200,20 +201,13 @@ module _ {A : Type 0} (ok : ℕ → Option A) where
         );
   }
 
-  zeros : List ℕ → List ℕ
-  zeros [] = []
-  zeros (b ∷ w) = 48 ∷ zeros w
-
-  length_zeros : (w : List ℕ) → length (zeros w) ≡ length w
-  unfolding zeros
-  length_zeros [] = refl
-  length_zeros (b ∷ w) = ap suc (length_zeros w)
+  abbrev zeros : List ℕ → List ℕ
+  zeros w = map (λ _. 48) w
 
   value_zeros : (w : List ℕ) → value_after 10 0 (zeros w) ≡ Some 0
-  unfolding zeros
   value_zeros [] = refl
   value_zeros (b ∷ w) = value_zeros w
 
   -- 0 is in range
   pub near_zeros : (lo hi : ℕ) → word_cause (ranged (ok 0)) ≡ 0 → Near (λ w. shaped ok (value_of 10 lo hi w))
-  near_zeros lo hi h = near_digits lo hi (λ w _. (zeros w, length_zeros w, ap (λ o. word_cause (shaped ok o)) (value_zeros w) ∙ h))
+  near_zeros lo hi h = near_digits lo hi (λ w _. (zeros w, length-map w _, ap (λ o. word_cause (shaped ok o)) (value_zeros w) ∙ h))

@@ -2,11 +2,8 @@
 use Rattle.std.proofs.Common.{◌≡◌, ℕ, ◌+◌, ◌*◌, ◌^◌, ◌<◌, ◌≤◌, List, length, get_or, drop, Some, None, mul-le-mul_left, pow-suc, add-one, arith}
 use native.Mathlib.Nat.{pow-le-pow_right}
 use Rattle.std.proofs.lemmas.Bool.Decides.{nat_tests}
-use Rattle.std.proofs.lemmas.List.{drop_more}
+use Rattle.std.proofs.lemmas.List.{drop_more, drop_all}
 use Rattle.tokens.specs.Numbers.{digit, value_after}
-
-pub digit_small : (radix b d : ℕ) → digit radix b ≡ Some d → d < 16
-digit_small radix b d e = grind (arith, nat_tests)
 
 pub more : (v r d i : ℕ) → v < 16 ^ i → r ≤ 16 → d < 16 → v * r + d < 16 ^ (i + 1)
 more v r d i hv hr hd =
@@ -28,3 +25,6 @@ value_more radix v i d bs h e = rw (drop_more bs i 0 h, value_after, e)
 
 pub value_stops : (radix v i : ℕ) (bs : List ℕ) → i < length bs → digit radix (get_or bs i 0) ≡ None → value_after radix v (drop i bs) ≡ None
 value_stops radix v i bs h e = rw (drop_more bs i 0 h, value_after, e)
+
+-- what one turn over the digits needs
+pub ruleset one_more = (more, value_more, value_stops, drop_all, nat_tests)

@@ -2,6 +2,7 @@
 use Rattle.std.proofs.Common.{◌≡◌, ℕ, suc, ◌+◌, ◌*◌, ◌≤◌, Bool, true, false, cond, List, [], ◌∷◌, ◌++◌, length, Some, None, Ok, Err, Option, Result, sym, refl, ap, ◌∙◌, arith}
 use Rattle.std.proofs.lemmas.Bool.{cond-true}
 use Rattle.std.proofs.lemmas.Bool.Decides.{nat_tests}
+use Rattle.std.proofs.lemmas.Option.{none-some}
 use Rattle.tokens.specs.declared.WordFault.{WordFault}
 use Rattle.tokens.specs.Numbers.{between, digit, value_after, value_of, ranged, shaped}
 use Rattle.tokens.specs.Listed.{dec, Value, Two, Three}
@@ -11,9 +12,6 @@ module _ {A P : Type 0} where
   pub split : (t : Bool) (r s : Result A WordFault) (x : A) → cond t r s ≡ Ok x → (t ≡ true → r ≡ Ok x → P) → (t ≡ false → s ≡ Ok x → P) → P
   split true r s x e p q = p refl e
   split false r s x e p q = q refl e
-
-pub none_some : {A : Type 0} {P : Type 0} (x : A) → None ≡ Some x → P
-none_some x e = let z : ◌≡◌ {A = ℕ} 0 1 = cc in absurd (omega arith)
 
 pub err_ok : {A : Type 0} {P : Type 0} (f : WordFault) (x : A) → Err f ≡ Ok x → P
 err_ok f x e = let z : ◌≡◌ {A = ℕ} 0 1 = cc in absurd (omega arith)
@@ -38,7 +36,7 @@ module _ {A : Type 0} (t : ℕ → Bool) (y : ℕ → A) where
 module _ (radix lo hi : ℕ) where
   long_enough : (b : Bool) (o : Option ℕ) (v : ℕ) → cond b o None ≡ Some v → (b ≡ true) × (o ≡ Some v)
   long_enough true o v e = (refl, e)
-  long_enough false o v e = none_some v e
+  long_enough false o v e = absurd (none-some v e)
 
   pub value_parts : (ds : List ℕ) (v : ℕ) → value_of radix lo hi ds ≡ Some v → (lo ≤ length ds) × (length ds ≤ hi) × Value radix ds v
   unfolding value_of
@@ -77,7 +75,7 @@ first_of n v x [] l e = absurd (omega arith)
 first_of n v x (b ∷ ds) l e = go (digit 10 b) refl e
   where
     go : (o : Option ℕ) → digit 10 b ≡ o → elim o [ None ↦ None | Some d ↦ value_after 10 (v * 10 + d) ds ] ≡ Some x → First n v x (b ∷ ds)
-    go None h e = none_some x e
+    go None h e = absurd (none-some x e)
     go (Some d) h e =
         let p = digit_is b d h in
         record { first = d; rest = ds; first_digit = p.0; spelled = ap (λ a. a ∷ ds) p.1; long = omega arith; value = e }
@@ -91,7 +89,7 @@ pub one_from : (ds : List ℕ) (v : ℕ) → value_of 10 1 1 ds ≡ Some v → (
 one_from ds v e =
     let p = value_parts 10 1 1 ds v e in
     let a = first_of 0 0 v ds (omega arith) p.2 in
-    let z = last_of _ v a.rest a.long a.value in
+    let z = last_of (0 * 10 + a.first) v a.rest a.long a.value in
     let same : a.first ≡ v = omega arith in
     (omega arith, cc)
 
@@ -99,17 +97,17 @@ pub two_from : (ds : List ℕ) (v : ℕ) → value_of 10 2 2 ds ≡ Some v → T
 two_from ds v e =
     let p = value_parts 10 2 2 ds v e in
     let a = first_of 1 0 v ds (omega arith) p.2 in
-    let b = first_of 0 _ v a.rest a.long a.value in
-    let z = last_of _ v b.rest b.long b.value in
+    let b = first_of 0 (0 * 10 + a.first) v a.rest a.long a.value in
+    let z = last_of ((0 * 10 + a.first) * 10 + b.first) v b.rest b.long b.value in
     record { tens = a.first; ones = b.first; tens_digit = a.first_digit; ones_digit = b.first_digit; spelled = cc; value = omega arith }
 
 pub three_from : (ds : List ℕ) (v : ℕ) → value_of 10 3 3 ds ≡ Some v → Three ds v
 three_from ds v e =
     let p = value_parts 10 3 3 ds v e in
     let a = first_of 2 0 v ds (omega arith) p.2 in
-    let b = first_of 1 _ v a.rest a.long a.value in
-    let c = first_of 0 _ v b.rest b.long b.value in
-    let z = last_of _ v c.rest c.long c.value in
+    let b = first_of 1 (0 * 10 + a.first) v a.rest a.long a.value in
+    let c = first_of 0 ((0 * 10 + a.first) * 10 + b.first) v b.rest b.long b.value in
+    let z = last_of (((0 * 10 + a.first) * 10 + b.first) * 10 + c.first) v c.rest c.long c.value in
     record {
       hundreds = a.first;
       tens = b.first;
@@ -135,10 +133,10 @@ pub four_from : (ds : List ℕ) (v : ℕ) → value_of 10 4 4 ds ≡ Some v → 
 four_from ds v e =
     let p = value_parts 10 4 4 ds v e in
     let a = first_of 3 0 v ds (omega arith) p.2 in
-    let b = first_of 2 _ v a.rest a.long a.value in
-    let c = first_of 1 _ v b.rest b.long b.value in
-    let d = first_of 0 _ v c.rest c.long c.value in
-    let z = last_of _ v d.rest d.long d.value in
+    let b = first_of 2 (0 * 10 + a.first) v a.rest a.long a.value in
+    let c = first_of 1 ((0 * 10 + a.first) * 10 + b.first) v b.rest b.long b.value in
+    let d = first_of 0 (((0 * 10 + a.first) * 10 + b.first) * 10 + c.first) v c.rest c.long c.value in
+    let z = last_of ((((0 * 10 + a.first) * 10 + b.first) * 10 + c.first) * 10 + d.first) v d.rest d.long d.value in
     record {
       front = dec a.first ∷ dec b.first ∷ dec c.first ∷ [];
       high = 100 * a.first + 10 * b.first + c.first;

@@ -2,6 +2,7 @@
 use Rattle.std.proofs.Common.{◌≡◌, ℕ, ◌≤◌, Bool, true, false, cond, ◌&&◌, eqb, List, [], ◌∷◌, ◌++◌, length, get_or, Some, None, Ok, Err, Decides, Option, Result, sym, refl, ap, ◌∙◌, subst, arith}
 use Rattle.std.proofs.lemmas.Bool.{false≢true, leb-true, le-leb, eqb-true, ne_eqb, and_parts, or_right, cond-true, cond-false}
 use Rattle.std.proofs.lemmas.Bool.Decides.{nat_tests}
+use Rattle.std.proofs.lemmas.Option.{none-some}
 use Rattle.tokens.specs.declared.WordFault.{WordFault}
 use Rattle.tokens.specs.declared.Area.TheVariants.{Output}
 use Rattle.tokens.specs.declared.BitCell.{BitCell}
@@ -10,7 +11,7 @@ use Rattle.tokens.specs.Numbers.{between, value_of, shaped, up_to, number_of}
 use Rattle.tokens.specs.Cells.{bit_of, word_of, word_like, switched_of}
 use Rattle.tokens.specs.Tokens.{Kind, number, load_number, switch, test, end_of_level, label, call, on_ok, label_in, call_in, mark, mark_equal, marked, mark_of, numeric, load_cell_of, load_of, stored, store_cell_of, store_of, switch_of, test_of, not_of, end_of, label_of, call_of, number_word_of, tested, plain_of, kind_of}
 use Rattle.tokens.specs.Listed.{dec, Three, Number, decimal, hexadecimal, BoardBit, InternalBit, BitReference, input_bit, output_bit, change_bit, internal_bit, WordReference, input_word, output_word, change_word, internal_word, timer_word, StoredArea, StoredWord, Sign, is_and, is_or, is_xor, is_plus, is_minus, is_less, is_greater, is_equal, is_at_most, is_at_least, is_open, is_close, is_else, is_end_of_condition, is_return, nots, switches, Listed, is_number, is_load_number, is_load_bit, is_load_word, is_store_bit, is_store_word, is_switch_output, is_switch_internal, is_test, is_sign, is_end_of_level, is_label, is_call}
-use Rattle.tokens.proofs.ExactDigits.{split, none_some, err_ok, one_from, three_from, from_one, from_three}
+use Rattle.tokens.proofs.ExactDigits.{split, err_ok, one_from, three_from, from_one, from_three}
 use Rattle.tokens.proofs.ExactCells.{Exact, exact_digits, by_first, by_exact, digit_first, exact_number, exact_board_bit, exact_internal_bit, exact_bit, exact_word, bit_long, word_long}
 
 on_from : {A B : Type 0} (g : A → B) (r : Result A WordFault) (x : B) → on_ok g r ≡ Ok x → (a : A) × (r ≡ Ok a) × (x ≡ g a)
@@ -115,10 +116,10 @@ one_sign b k e =
     pick b [] k 60 _ _ e is_less (λ e. pick b [] k 62 _ _ e is_greater (λ e. pick b [] k 61 _ _ e is_equal (λ e.
     pick b [] k 91 _ _ e is_open (λ e. pick b [] k 93 _ _ e is_close (λ e.
     pick b [] k 69 _ _ e is_else (λ e. pick b [] k 90 _ _ e is_end_of_condition (λ e. pick b [] k 82 _ _ e is_return (λ e.
-    none_some k e)))))))))))))
+    absurd (none-some k e))))))))))))))
 
 two_signs : (b : ℕ) (k : Kind) → mark_equal b ≡ Some k → Sign (b ∷ 61 ∷ []) k
-two_signs b k e = pick b (61 ∷ []) k 60 _ _ e is_at_most (λ e. pick b (61 ∷ []) k 62 _ _ e is_at_least (λ e. none_some k e))
+two_signs b k e = pick b (61 ∷ []) k 60 _ _ e is_at_most (λ e. pick b (61 ∷ []) k 62 _ _ e is_at_least (λ e. absurd (none-some k e)))
 
 one_byte : (w : List ℕ) → length w ≡ 1 → w ≡ get_or w 0 0 ∷ []
 one_byte [] l = absurd (omega arith)

@@ -5,3 +5,5 @@ pub mod ExactDigits
 pub mod ExactCells
 pub mod ExactKinds
 pub mod Verdicts
+pub mod Names
+pub mod Parts

@@ -176,3 +176,8 @@ kind_of bs =
     (cond (slice_index bs 0 == 74) (end_of (drop 1 bs))
     (cond (slice_index bs 0 == 58) (label_of (drop 1 bs))
     (cond (slice_index bs 0 == 71) (call_of (drop 1 bs)) (plain_of bs))))))))
+
+-- whether it is label n
+abbrev pub labels : ℕ → Kind → Bool
+labels n (label m) = n == m
+labels n k = false

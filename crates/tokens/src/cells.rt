@@ -2,93 +2,68 @@
 ghost use Rattle.std.specs.Prelude.{◌≡◌};
 ghost use Rattle.tokens.specs.Cells.{area_bit_of, internal_bit_of, area_pair_of, internal_pair_of, timer_of, bit_of, word_of, word_like, switched_of};
 
-use crate::numbers::digits_value;
+use crate::numbers::{digits_value, shaped};
 use crate::{Area, BitCell, WordCell, WordFault};
 
 // Three digits: board, byte and bit.
 fn area_bit(area: Area, digits: &[u8]) -> Result<BitCell, WordFault>
     ensures { result ≡ area_bit_of area digits.now }
 {
-    match digits_value(10, 3, 3, digits) {
-        Some(v) => {
-            if v / 100 <= 3 && v / 10 % 10 <= 3 && v % 10 <= 7 {
-                Ok(BitCell {
-                    area,
-                    byte: (v / 100 * 4 + v / 10 % 10) as u8,
-                    bit: (v % 10) as u8,
-                })
-            } else {
-                Err(WordFault::OutOfRange)
-            }
-        }
-        None => Err(WordFault::Unlisted),
-    }
+    shaped(digits_value(10, 3, 3, digits), |value| {
+        let (board, byte, bit) = (value / 100, value / 10 % 10, value % 10);
+        (board <= 3 && byte <= 3 && bit <= 7).then(|| BitCell {
+            area,
+            byte: (board * 4 + byte) as u8,
+            bit: bit as u8,
+        })
+    })
 }
 
 // Four digits: a byte of three, and a bit.
 fn internal_bit(digits: &[u8]) -> Result<BitCell, WordFault>
     ensures { result ≡ internal_bit_of digits.now }
 {
-    match digits_value(10, 4, 4, digits) {
-        Some(v) => {
-            if v / 10 <= 127 && v % 10 <= 7 {
-                Ok(BitCell {
-                    area: Area::Internal,
-                    byte: (v / 10) as u8,
-                    bit: (v % 10) as u8,
-                })
-            } else {
-                Err(WordFault::OutOfRange)
-            }
-        }
-        None => Err(WordFault::Unlisted),
-    }
+    shaped(digits_value(10, 4, 4, digits), |value| {
+        let (byte, bit) = (value / 10, value % 10);
+        (byte <= 127 && bit <= 7).then(|| BitCell {
+            area: Area::Internal,
+            byte: byte as u8,
+            bit: bit as u8,
+        })
+    })
 }
 
 // Two digits: board and an even byte.
 fn area_pair(area: Area, digits: &[u8]) -> Result<WordCell, WordFault>
     ensures { result ≡ area_pair_of area digits.now }
 {
-    match digits_value(10, 2, 2, digits) {
-        Some(v) => {
-            if v / 10 <= 3 && v % 10 <= 3 && v % 2 == 0 {
-                Ok(WordCell::Pair(area, (v / 10 * 4 + v % 10) as u8))
-            } else {
-                Err(WordFault::OutOfRange)
-            }
-        }
-        None => Err(WordFault::Unlisted),
-    }
+    shaped(digits_value(10, 2, 2, digits), |value| {
+        let (board, byte) = (value / 10, value % 10);
+        let is_word = board <= 3 && byte <= 3 && byte % 2 == 0;
+        is_word.then(|| WordCell::Pair(area, (board * 4 + byte) as u8))
+    })
 }
 
 // Three digits: an even byte.
 fn internal_pair(digits: &[u8]) -> Result<WordCell, WordFault>
     ensures { result ≡ internal_pair_of digits.now }
 {
-    match digits_value(10, 3, 3, digits) {
-        Some(v) => {
-            if v <= 127 && v % 2 == 0 {
-                Ok(WordCell::Pair(Area::Internal, v as u8))
-            } else {
-                Err(WordFault::OutOfRange)
-            }
-        }
-        None => Err(WordFault::Unlisted),
-    }
+    shaped(digits_value(10, 3, 3, digits), |byte| {
+        (byte <= 127 && byte % 2 == 0).then(|| WordCell::Pair(Area::Internal, byte as u8))
+    })
 }
 
 // Two digits: a timer.
 fn timer(digits: &[u8]) -> Result<WordCell, WordFault>
     ensures { result ≡ timer_of digits.now }
 {
-    match digits_value(10, 2, 2, digits) {
-        Some(v) if v <= 19 => Ok(WordCell::Timer(v as u8)),
-        Some(_) => Err(WordFault::OutOfRange),
-        None => Err(WordFault::Unlisted),
-    }
+    shaped(digits_value(10, 2, 2, digits), |timer| {
+        (timer <= 19).then(|| WordCell::Timer(timer as u8))
+    })
 }
 
 // The bit that a reference to I, Y, V or F names.
+#[tactic(auto, using(crate::proofs::Parts::first_bytes), unfolding(crate::specs::Cells::bit_of))]
 pub(crate) fn bit_cell(part: &[u8]) -> Result<BitCell, WordFault>
     ensures { result ≡ bit_of part.now }
 {
@@ -101,7 +76,8 @@ pub(crate) fn bit_cell(part: &[u8]) -> Result<BitCell, WordFault>
     }
 }
 
-// The word that a reference to I, Y, V, F or T names.
+// The word that a reference to I, Y, V, F or T names: behind each letter other digits than those of a bit.
+#[tactic(auto, using(crate::proofs::Parts::first_bytes), unfolding(crate::specs::Cells::word_of))]
 pub(crate) fn word_cell(part: &[u8]) -> Result<WordCell, WordFault>
     ensures { result ≡ word_of part.now }
 {
@@ -116,6 +92,7 @@ pub(crate) fn word_cell(part: &[u8]) -> Result<WordCell, WordFault>
 }
 
 // Whether a reference is as long as one to a word.
+#[tactic(auto, using(crate::proofs::Parts::first_bytes), unfolding(crate::specs::Cells::word_like))]
 pub(crate) fn is_word_like(part: &[u8]) -> bool
     ensures { result ≡ word_like part.now }
 {
@@ -127,6 +104,7 @@ pub(crate) fn is_word_like(part: &[u8]) -> bool
 }
 
 // The bit that is switched: three digits of an output bit, or an F bit.
+#[tactic(auto, using(crate::proofs::Parts::first_bytes), unfolding(crate::specs::Cells::switched_of))]
 pub(crate) fn switched_cell(part: &[u8]) -> Result<BitCell, WordFault>
     ensures { result ≡ switched_of part.now }
 {

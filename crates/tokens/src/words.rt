@@ -1,18 +1,19 @@
-// What a word of the source is, by its first bytes.
+// What a word of the source is, by its first bytes. A function takes the word, which its token keeps, and what stands behind
+// the bytes that were matched: two slices and no struct, since each call cuts the second anew.
 ghost use Rattle.std.specs.Prelude.{◌≡◌, true, false};
 ghost use Rattle.tokens.specs.Cells.{bit_of, word_of};
 ghost use Rattle.tokens.specs.Tokens.{lexed, named, on_ok, load_word, load_bit, store_word, store_bit, marked, mark, mark_equal, mark_of, load_cell_of, load_number_of, load_of, store_cell_of, store_of, switch_of, test_of, not_of, end_of, label_of, call_of, number_word_of, plain_of, kind_of};
 ghost use Rattle.tokens.specs.Listed.{Verdict, OneVerdict};
 
 use crate::cells::{bit_cell, is_word_like, switched_cell, word_cell};
-use crate::numbers::{digits_value, number};
+use crate::numbers::{digits_value, number, shaped};
 use crate::{Comparison, Operator, Token, WordFault};
 
 // A token of one byte.
-fn mark_of<'a>(part: &'a [u8], b: u8) -> Result<Token<'a>, WordFault>
-    ensures { lexed result ≡ named part.now (marked (mark b)) }
+fn mark_of<'a>(part: &'a [u8], byte: u8) -> Result<Token<'a>, WordFault>
+    ensures { lexed result ≡ named part.now (marked (mark byte)) }
 {
-    match b {
+    match byte {
         b'A' => Ok(Token::Operator(part, Operator::And)),
         b'O' => Ok(Token::Operator(part, Operator::Or)),
         b'X' => Ok(Token::Operator(part, Operator::Xor)),
@@ -31,50 +32,25 @@ fn mark_of<'a>(part: &'a [u8], b: u8) -> Result<Token<'a>, WordFault>
 }
 
 // A byte with `=` behind it.
-fn mark_equal_of<'a>(part: &'a [u8], b: u8) -> Result<Token<'a>, WordFault>
-    ensures { lexed result ≡ named part.now (marked (mark_equal b)) }
+fn mark_equal_of<'a>(part: &'a [u8], byte: u8) -> Result<Token<'a>, WordFault>
+    ensures { lexed result ≡ named part.now (marked (mark_equal byte)) }
 {
-    match b {
+    match byte {
         b'<' => Ok(Token::Comparison(part, Comparison::AtMost)),
         b'>' => Ok(Token::Comparison(part, Comparison::AtLeast)),
         _ => Err(WordFault::Unlisted),
     }
 }
 
+// A sign, or a letter that is a token by itself.
+#[tactic(auto, using(crate::proofs::Parts::first_bytes), unfolding(crate::specs::Tokens::mark_of))]
 fn mark_word<'a>(part: &'a [u8]) -> Result<Token<'a>, WordFault>
     ensures { lexed result ≡ named part.now (mark_of part.now) }
 {
     match part {
-        [b] => mark_of(part, *b),
-        [b, b'='] => mark_equal_of(part, *b),
+        [byte] => mark_of(part, *byte),
+        [byte, b'='] => mark_equal_of(part, *byte),
         _ => Err(WordFault::Unlisted),
-    }
-}
-
-fn load_number<'a>(part: &'a [u8], digits: &[u8]) -> Result<Token<'a>, WordFault>
-    ensures { lexed result ≡ named part.now (load_number_of digits.now) }
-{
-    match number(digits) {
-        Ok(v) => Ok(Token::LoadNumber(part, v)),
-        Err(e) => Err(e),
-    }
-}
-
-fn load_word_cell<'a>(part: &'a [u8], cell: &[u8], negated: bool) -> Result<Token<'a>, WordFault>
-    ensures { lexed result ≡ named part.now (on_ok (λ c. load_word c negated) (word_of cell.now)) }
-{
-    match word_cell(cell) {
-        Ok(c) => Ok(Token::LoadWord(part, c, negated)),
-        Err(e) => Err(e),
-    }
-}
-
-fn load_bit_cell<'a>(part: &'a [u8], cell: &[u8], negated: bool) -> Result<Token<'a>, WordFault>
-    ensures { lexed result ≡ named part.now (on_ok (λ c. load_bit c negated) (bit_of cell.now)) }
-{
-    match bit_cell(cell) {
-        Ok(c) => Ok(Token::LoadBit(part, c, negated)),
-        Err(e) => Err(e),
     }
 }
 
@@ -83,51 +59,36 @@ fn load_cell<'a>(part: &'a [u8], cell: &[u8], negated: bool) -> Result<Token<'a>
     ensures { lexed result ≡ named part.now (load_cell_of negated cell.now) }
 {
     if is_word_like(cell) {
-        load_word_cell(part, cell, negated)
+        Ok(Token::LoadWord(part, word_cell(cell)?, negated))
     } else {
-        load_bit_cell(part, cell, negated)
+        Ok(Token::LoadBit(part, bit_cell(cell)?, negated))
     }
 }
 
 // Behind `L`.
+#[tactic(auto, using(crate::proofs::Parts::first_bytes), unfolding(crate::specs::Tokens::load_of))]
 fn load_word<'a>(part: &'a [u8], rest: &[u8]) -> Result<Token<'a>, WordFault>
     ensures { lexed result ≡ named part.now (load_of rest.now) }
 {
     match rest {
-        [b'.' | b'0'..=b'9', ..] => load_number(part, rest),
+        [b'.' | b'0'..=b'9', ..] => Ok(Token::LoadNumber(part, number(rest)?)),
         _ => load_cell(part, rest, false),
     }
 }
 
-fn store_word_cell<'a>(part: &'a [u8], cell: &[u8], negated: bool) -> Result<Token<'a>, WordFault>
-    ensures { lexed result ≡ named part.now (on_ok (λ c. store_word c negated) (word_of cell.now)) }
-{
-    match word_cell(cell) {
-        Ok(c) => Ok(Token::StoreWord(part, c, negated)),
-        Err(e) => Err(e),
-    }
-}
-
-fn store_bit_cell<'a>(part: &'a [u8], cell: &[u8], negated: bool) -> Result<Token<'a>, WordFault>
-    ensures { lexed result ≡ named part.now (on_ok (λ c. store_bit c negated) (bit_of cell.now)) }
-{
-    match bit_cell(cell) {
-        Ok(c) => Ok(Token::StoreBit(part, c, negated)),
-        Err(e) => Err(e),
-    }
-}
-
+// A reference behind `S` or `NS`. A store has tokens of its own: closures for these would be longer than the two lines.
 fn store_cell<'a>(part: &'a [u8], cell: &[u8], negated: bool) -> Result<Token<'a>, WordFault>
     ensures { lexed result ≡ named part.now (store_cell_of negated cell.now) }
 {
     if is_word_like(cell) {
-        store_word_cell(part, cell, negated)
+        Ok(Token::StoreWord(part, word_cell(cell)?, negated))
     } else {
-        store_bit_cell(part, cell, negated)
+        Ok(Token::StoreBit(part, bit_cell(cell)?, negated))
     }
 }
 
 // Behind `S` or `NS`.
+#[tactic(auto, using(crate::proofs::Parts::first_bytes), unfolding(crate::specs::Tokens::store_of))]
 fn store_word<'a>(part: &'a [u8], rest: &[u8], negated: bool) -> Result<Token<'a>, WordFault>
     ensures { lexed result ≡ named part.now (store_of negated rest.now) }
 {
@@ -141,22 +102,18 @@ fn store_word<'a>(part: &'a [u8], rest: &[u8], negated: bool) -> Result<Token<'a
 fn switch_word<'a>(part: &'a [u8], rest: &[u8], on: bool) -> Result<Token<'a>, WordFault>
     ensures { lexed result ≡ named part.now (switch_of on rest.now) }
 {
-    match switched_cell(rest) {
-        Ok(c) => Ok(Token::Switch(part, c, on)),
-        Err(e) => Err(e),
-    }
+    Ok(Token::Switch(part, switched_cell(rest)?, on))
 }
 
+// A bit that is tested: behind nothing or `N`.
 fn test_word<'a>(part: &'a [u8], cell: &[u8], negated: bool) -> Result<Token<'a>, WordFault>
     ensures { lexed result ≡ named part.now (test_of negated cell.now) }
 {
-    match bit_cell(cell) {
-        Ok(c) => Ok(Token::Test(part, c, negated)),
-        Err(e) => Err(e),
-    }
+    Ok(Token::Test(part, bit_cell(cell)?, negated))
 }
 
 // Behind `N`.
+#[tactic(auto, using(crate::proofs::Parts::first_bytes), unfolding(crate::specs::Tokens::not_of))]
 fn not_word<'a>(part: &'a [u8], rest: &[u8]) -> Result<Token<'a>, WordFault>
     ensures { lexed result ≡ named part.now (not_of rest.now) }
 {
@@ -171,66 +128,46 @@ fn not_word<'a>(part: &'a [u8], rest: &[u8]) -> Result<Token<'a>, WordFault>
 fn end_word<'a>(part: &'a [u8], rest: &[u8]) -> Result<Token<'a>, WordFault>
     ensures { lexed result ≡ named part.now (end_of rest.now) }
 {
-    match digits_value(10, 1, 1, rest) {
-        Some(v) if v <= 1 => Ok(Token::End(part, v as u8)),
-        Some(_) => Err(WordFault::OutOfRange),
-        None => Err(WordFault::Unlisted),
-    }
+    let level = shaped(digits_value(10, 1, 1, rest), |level| {
+        (level <= 1).then(|| level as u8)
+    })?;
+    Ok(Token::End(part, level))
 }
 
 // Behind `:`.
 fn label_word<'a>(part: &'a [u8], rest: &[u8]) -> Result<Token<'a>, WordFault>
     ensures { lexed result ≡ named part.now (label_of rest.now) }
 {
-    match digits_value(10, 3, 3, rest) {
-        Some(v) => {
-            if v <= 199 && v != 2 {
-                Ok(Token::Label(part, v as u8))
-            } else {
-                Err(WordFault::OutOfRange)
-            }
-        }
-        None => Err(WordFault::Unlisted),
-    }
+    let label = shaped(digits_value(10, 3, 3, rest), |label| {
+        (label <= 199 && label != 2).then(|| label as u8)
+    })?;
+    Ok(Token::Label(part, label))
 }
 
 // Behind `G`.
 fn call_word<'a>(part: &'a [u8], rest: &[u8]) -> Result<Token<'a>, WordFault>
     ensures { lexed result ≡ named part.now (call_of rest.now) }
 {
-    match digits_value(10, 3, 3, rest) {
-        Some(v) => {
-            if 3 <= v && v <= 199 {
-                Ok(Token::Call(part, v as u8))
-            } else {
-                Err(WordFault::OutOfRange)
-            }
-        }
-        None => Err(WordFault::Unlisted),
-    }
-}
-
-fn number_word<'a>(part: &'a [u8]) -> Result<Token<'a>, WordFault>
-    ensures { lexed result ≡ named part.now (number_word_of part.now) }
-{
-    match number(part) {
-        Ok(v) => Ok(Token::Number(part, v)),
-        Err(e) => Err(e),
-    }
+    let label = shaped(digits_value(10, 3, 3, rest), |label| {
+        (3..=199).contains(&label).then(|| label as u8)
+    })?;
+    Ok(Token::Call(part, label))
 }
 
 // A word that begins with no letter of a command.
+#[tactic(auto, using(crate::proofs::Parts::first_bytes), unfolding(crate::specs::Tokens::plain_of))]
 fn plain_word<'a>(part: &'a [u8]) -> Result<Token<'a>, WordFault>
     ensures { lexed result ≡ named part.now (plain_of part.now) }
 {
     match part {
         [b'I' | b'Y' | b'V' | b'F', ..] => test_word(part, part, false),
-        [b'.' | b'0'..=b'9', ..] => number_word(part),
+        [b'.' | b'0'..=b'9', ..] => Ok(Token::Number(part, number(part)?)),
         _ => mark_word(part),
     }
 }
 
 // The token that a word is, looked up by its first byte.
+#[tactic(auto, using(crate::proofs::Parts::first_bytes), unfolding(crate::specs::Tokens::kind_of))]
 fn look_up<'a>(part: &'a [u8]) -> Result<Token<'a>, WordFault>
     ensures { lexed result ≡ named part.now (kind_of part.now) }
 {

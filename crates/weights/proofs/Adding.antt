@@ -1,6 +1,6 @@
 -- What a fragment of a code adds to what lies ahead, wherever it stands. Assumes nothing.
-use Rattle.std.proofs.Common.{◌≡◌, ℕ, suc, ◌+◌, ◌<◌, ◌≤◌, max, List, [], ◌∷◌, ◌++◌, length, sym, refl, ap, ◌∙◌, ap₂, arith, length-append}
-use Rattle.program.specs.declared.instruction.Join.{Join}
+use Rattle.std.proofs.Common.{◌≡◌, ℕ, suc, ◌+◌, ◌<◌, ◌≤◌, max, List, [], ◌∷◌, ◌++◌, length, sym, refl, ap, ◌∙◌, ap₂, arith, length-append, Option}
+use Rattle.tokens.specs.declared.Operator.{Operator}
 use Rattle.program.specs.declared.instruction.Check.{Check}
 use Rattle.program.specs.declared.instruction.Instruction.{Instruction}
 use Rattle.program.specs.declared.instruction.Instruction.TheVariants.{Return, Open, Close, Test, Skip, Call}
@@ -69,7 +69,7 @@ module _ (r : Rule ℕ) (s : Adding r) (program : List Instruction) (end : ℕ) 
       ∙ ap (s.plus c) (q (n + length a) (omega (arith, e)) (has_right program n a b h) ∙ ap (λ (k : ℕ). s.plus d (from k)) w)
       ∙ s.more c d (from (n + length (a ++ b)))
 
-  pub adds_bracket : (j : Join) (a : List Instruction) (c : ℕ) → Adds a c → Adds (bracket_code j a) (s.plus s.one (s.plus c s.one))
+  pub adds_bracket : (j : Option Operator) (a : List Instruction) (c : ℕ) → Adds a c → Adds (bracket_code j a) (s.plus s.one (s.plus c s.one))
   adds_bracket j a c p =
       adds_thence (Open j ∷ []) (a ++ (Close ∷ [])) s.one (s.plus c s.one) (adds_single (Open j) (λ n. tt) (λ n later. refl))
       (adds_thence a (Close ∷ []) c s.one p (adds_single Close (λ n. tt) (λ n later. refl)))

@@ -1,10 +1,8 @@
 -- The sums ahead of a module's place are the figure and the chain of the module. Assumes nothing.
-use Rattle.std.proofs.Common.{◌≡◌, ℕ, ◌+◌, ◌≤◌, max, Bool, true, false, cond, eqb, List, [], ◌∷◌, ◌++◌, length, refl, ap, subst, arith, length-append}
+use Rattle.std.proofs.Common.{◌≡◌, ℕ, ◌+◌, ◌≤◌, max, Bool, true, false, cond, eqb, List, [], ◌∷◌, ◌++◌, length, refl, ap, subst, arith, length-append, Some, None, Option}
 use Rattle.tokens.specs.declared.Operator.{Operator}
 use Rattle.grammar.specs.Grammar.{Load as LoadTree, number_loaded, bit_loaded, word_loaded, bracket_loaded, Ops, no_more, apply_then, Operand, number_taken, bit_taken, word_taken, bracket_taken, Act, bit_stored, word_stored, switched, called, Command, loading, applying, acting, choosing, Cmds, done, and_then, Alternative, no_else, else_do, Module, module_of}
 use Rattle.program.specs.declared.instruction.Source.TheVariants.{Number, Bit, Word}
-use Rattle.program.specs.declared.instruction.Join.{Join}
-use Rattle.program.specs.declared.instruction.Join.TheVariants.{Replace, With}
 use Rattle.program.specs.declared.instruction.Check.{Check}
 use Rattle.program.specs.declared.instruction.Instruction.{Instruction}
 use Rattle.program.specs.declared.instruction.Instruction.TheVariants.{Return, Load, Apply, StoreBit, StoreWord, Switch}
@@ -39,7 +37,7 @@ module _ (program : List Instruction) (end : ℕ) where
   abbrev Takes : List Instruction → ℕ → Type 0
   Takes a c = Adds steps adding_steps program end a c
 
-  takes_bracket : (j : Join) (l : LoadTree) (os : Ops) → Takes (load_code l) (load_figure l) → Takes (ops_code os) (ops_figure os) → Takes (bracket_code j (load_code l ++ ops_code os)) (2 + (load_figure l + ops_figure os))
+  takes_bracket : (j : Option Operator) (l : LoadTree) (os : Ops) → Takes (load_code l) (load_figure l) → Takes (ops_code os) (ops_figure os) → Takes (bracket_code j (load_code l ++ ops_code os)) (2 + (load_figure l + ops_figure os))
   takes_bracket j l os p q =
       let c = load_figure l + ops_figure os in
       adds_as steps adding_steps program end (bracket_code j (load_code l ++ ops_code os)) (1 + (c + 1)) (2 + c) (omega arith)
@@ -51,7 +49,7 @@ module _ (program : List Instruction) (end : ℕ) where
     takes_load (number_loaded v) = adds_single steps adding_steps program end (Load (Number v)) (λ n. tt) (λ n later. refl)
     takes_load (bit_loaded c b) = adds_single steps adding_steps program end (Load (Bit c b)) (λ n. tt) (λ n later. refl)
     takes_load (word_loaded c b) = adds_single steps adding_steps program end (Load (Word c b)) (λ n. tt) (λ n later. refl)
-    takes_load (bracket_loaded l os) = takes_bracket Replace l os (takes_load l) (takes_ops os)
+    takes_load (bracket_loaded l os) = takes_bracket None l os (takes_load l) (takes_ops os)
 
     takes_ops : (os : Ops) → Takes (ops_code os) (ops_figure os)
     takes_ops no_more = adds_nothing steps adding_steps program end
@@ -61,7 +59,7 @@ module _ (program : List Instruction) (end : ℕ) where
     takes_operand o (number_taken v) = adds_single steps adding_steps program end (Apply o (Number v)) (λ n. tt) (λ n later. refl)
     takes_operand o (bit_taken c b) = adds_single steps adding_steps program end (Apply o (Bit c b)) (λ n. tt) (λ n later. refl)
     takes_operand o (word_taken c b) = adds_single steps adding_steps program end (Apply o (Word c b)) (λ n. tt) (λ n later. refl)
-    takes_operand o (bracket_taken l os) = takes_bracket (With o) l os (takes_load l) (takes_ops os)
+    takes_operand o (bracket_taken l os) = takes_bracket (Some o) l os (takes_load l) (takes_ops os)
 
   -- where each label's place is behind `end` and has its figure ahead
   module _ (at fig : ℕ → ℕ) (behind : (l : ℕ) → end ≤ at l) (each : (l : ℕ) → ahead steps program (at l) ≡ fig l) where
@@ -91,7 +89,7 @@ module _ (program : List Instruction) (end : ℕ) where
   abbrev CallsDown : List Instruction → ℕ → Type 0
   CallsDown a c = Adds modules adding_modules program end a c
 
-  calls_bracket : (j : Join) (l : LoadTree) (os : Ops) → CallsDown (load_code l) 0 → CallsDown (ops_code os) 0 → CallsDown (bracket_code j (load_code l ++ ops_code os)) 0
+  calls_bracket : (j : Option Operator) (l : LoadTree) (os : Ops) → CallsDown (load_code l) 0 → CallsDown (ops_code os) 0 → CallsDown (bracket_code j (load_code l ++ ops_code os)) 0
   calls_bracket j l os p q =
       adds_bracket modules adding_modules program end j (load_code l ++ ops_code os) 0
       (adds_thence modules adding_modules program end (load_code l) (ops_code os) 0 0 p q)
@@ -101,7 +99,7 @@ module _ (program : List Instruction) (end : ℕ) where
     calls_load (number_loaded v) = adds_single modules adding_modules program end (Load (Number v)) (λ n. tt) (λ n later. refl)
     calls_load (bit_loaded c b) = adds_single modules adding_modules program end (Load (Bit c b)) (λ n. tt) (λ n later. refl)
     calls_load (word_loaded c b) = adds_single modules adding_modules program end (Load (Word c b)) (λ n. tt) (λ n later. refl)
-    calls_load (bracket_loaded l os) = calls_bracket Replace l os (calls_load l) (calls_ops os)
+    calls_load (bracket_loaded l os) = calls_bracket None l os (calls_load l) (calls_ops os)
 
     calls_ops : (os : Ops) → CallsDown (ops_code os) 0
     calls_ops no_more = adds_nothing modules adding_modules program end
@@ -111,7 +109,7 @@ module _ (program : List Instruction) (end : ℕ) where
     calls_operand o (number_taken v) = adds_single modules adding_modules program end (Apply o (Number v)) (λ n. tt) (λ n later. refl)
     calls_operand o (bit_taken c b) = adds_single modules adding_modules program end (Apply o (Bit c b)) (λ n. tt) (λ n later. refl)
     calls_operand o (word_taken c b) = adds_single modules adding_modules program end (Apply o (Word c b)) (λ n. tt) (λ n later. refl)
-    calls_operand o (bracket_taken l os) = calls_bracket (With o) l os (calls_load l) (calls_ops os)
+    calls_operand o (bracket_taken l os) = calls_bracket (Some o) l os (calls_load l) (calls_ops os)
 
   -- where each label's place is behind `end` and has its chain ahead
   module _ (at ch : ℕ → ℕ) (behind : (l : ℕ) → end ≤ at l) (each : (l : ℕ) → 1 + ahead modules program (at l) ≡ ch l) where

@@ -23,44 +23,20 @@ fn a_condition_and_a_call(rt: HostRuntime) {
         Instruction::Return,
     ];
     let mut program = Program::empty();
-    assert!(rt; program.load(&code, 0, 6));
-    assert!(rt;
-        weigh(&program, 0)
-            == Weight {
-                figure: 7,
-                chain: 1,
-            }
-    );
-    assert!(rt;
-        weigh(&program, 6)
-            == Weight {
-                figure: 2,
-                chain: 0,
-            }
-    );
-    assert!(rt;
-        weigh(&program, 8)
-            == Weight {
-                figure: 1,
-                chain: 0,
-            }
-    );
-    assert!(rt;
-        weigh(&program, 65535)
-            == Weight {
-                figure: 1,
-                chain: 0,
-            }
-    );
+    assert!(rt; program.load(&code, 0, 6).is_ok());
+    for (place, figure, chain) in [(0, 7, 1), (6, 2, 0), (8, 1, 0), (65535, 1, 0)] {
+        assert_eq!(rt; weigh(&program, place), Weight { figure, chain });
+    }
 }
 
 // 682 modules, each of which calls the next one twice.
 fn doubled() -> [Instruction; 2048] {
     let mut code = [Instruction::Return; 2048];
-    for i in 0..682 {
-        let next = (3 * i + 3) as u16;
-        code[3 * i] = Instruction::Call(next);
-        code[3 * i + 1] = Instruction::Call(next);
+    for (module, next) in code.chunks_exact_mut(3).zip((3u16..2049).step_by(3)) {
+        if let [first, second, _] = module {
+            *first = Instruction::Call(next);
+            *second = Instruction::Call(next);
+        }
     }
     code
 }
@@ -68,26 +44,8 @@ fn doubled() -> [Instruction; 2048] {
 #[test]
 fn doubled_calls(rt: HostRuntime) {
     let mut program = Program::empty();
-    assert!(rt; program.load(&doubled(), 0, 2046));
-    assert!(rt;
-        weigh(&program, 2043)
-            == Weight {
-                figure: 5,
-                chain: 1,
-            }
-    );
-    assert!(rt;
-        weigh(&program, 2019)
-            == Weight {
-                figure: 2045,
-                chain: 9,
-            }
-    );
-    assert!(rt;
-        weigh(&program, 0)
-            == Weight {
-                figure: 60001,
-                chain: 9,
-            }
-    );
+    assert!(rt; program.load(&doubled(), 0, 2046).is_ok());
+    for (place, figure, chain) in [(2043, 5, 1), (2019, 2045, 9), (0, 60001, 9)] {
+        assert_eq!(rt; weigh(&program, place), Weight { figure, chain });
+    }
 }

@@ -11,11 +11,7 @@ use program::instruction::Instruction;
 pub(crate) fn at<T: Tally>(table: &[T], place: u16) -> T
     ensures { result ≡ slice_index_or table.now place T.Tally.rule.ends }
 {
-    if (place as usize) < table.len() {
-        table[place as usize]
-    } else {
-        T::end()
-    }
+    table.get(place as usize).copied().unwrap_or(T::end())
 }
 
 // What lies ahead of a place, where the table has what lies ahead of the places behind it.
@@ -38,14 +34,13 @@ fn ahead<T: Tally>(program: &Program, place: u16, table: &[T]) -> T
     }
 }
 
-// What lies ahead of each place, from the end of the code up.
+// What lies ahead of each place, from the end of the code up. By place and not by slot: each value is made from values
+// anywhere behind it. The table is an array, since this crate has no heap.
 pub(crate) fn walk<T: Tally>(program: &Program) -> [T; 2048]
     ensures { result ≡ aheads T.Tally.rule 0 program.now.code }
 {
     let mut table = [T::end(); 2048];
-    let mut place: u16 = 2048;
-    while place > 0 {
-        place -= 1;
+    for place in (0..2048u16).rev() {
         table[place as usize] = ahead(program, place, &table);
     }
     table

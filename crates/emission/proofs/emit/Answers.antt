@@ -1,6 +1,6 @@
 use Rattle.std.proofs.Common.{sym}
 use Rattle.grammar.specs.Verdict.{kinds_of}
-use Rattle.emission.proofs.Fills.{fits_few, fits_total, written, refused_length, refused_code, made_length}
+use Rattle.emission.proofs.Fills.{written, refused_length, refused_code, made_length}
 use Rattle.emission.proofs.Trees.{code_by_tokens}
 use Rattle.emission.proofs.Soundness.{sound_code}
 use Rattle.emission.proofs.emit.Goals as goal
@@ -12,9 +12,6 @@ returns-then-not-has_room c = record {
   tree = code_by_tokens;
   sound = sound_code;
 }
-
-pub fill-n-requires : goal.fill-n-requires
-fill-n-requires c = record { few = fits_few c.args.tokens.now (sym c.if-not-has_room.ensures); room = fits_total (kinds_of c.args.tokens.now) (sym c.if-not-has_room.ensures) }
 
 pub returns : goal.returns
 returns c = record {

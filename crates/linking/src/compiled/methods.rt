@@ -7,7 +7,7 @@ ghost use Rattle.linking.specs.Passes.{RecordAfter, RunsAsWritten};
 use crate::LinkFault;
 use crate::compiled::Compiled;
 use crate::figures::Figures;
-use crate::judging::{Linked, link};
+use crate::judging::link;
 use program::Program;
 use program::instruction::Instruction;
 
@@ -17,7 +17,7 @@ impl Compiled {
         ensures recorded { RecordOf two_empty result.program result.figures }
     {
         let mut program = Program::empty();
-        let _ = program.load(&[Instruction::Return; 3], 0, 1);
+        program.load(&[Instruction::Return; 3], 0, 1).unwrap();
         Compiled {
             program,
             figures: Figures { quick: 1, slow: 1 },
@@ -48,7 +48,6 @@ pub fn compile(text: &[u8], into: &mut Compiled) -> Result<Figures, LinkFault>
     ensures passes { RunsAsWritten }
 {
     *into = Compiled::empty();
-    let Linked { program, figures } = link(text)?;
-    *into = Compiled { program, figures };
-    Ok(figures)
+    *into = link(text)?;
+    Ok(into.figures)
 }

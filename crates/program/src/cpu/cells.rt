@@ -1,6 +1,7 @@
-// The cells as a step reads and stores them.
+// The cells as a step reads and stores them. That there is such a cell is a `requires` here and no invariant of a type:
+// `WordCell` is an enum, which takes no ghost field, and the invariant of `Program` gives the fact for each instruction.
 ghost use Rattle.std.specs.Prelude.{◌≡◌, ◌+◌, ◌<◌, true};
-ghost use Rattle.program.specs.Cells.{bit_value, pair_at, word_value, put_bit, put_pair, bit_put, word_put};
+ghost use Rattle.program.specs.Cells.{number, bit_value, pair_at, word_value, put_bit, put_pair, switch_bit_of, word_put};
 ghost use Rattle.program.specs.Machine.{source_value, met};
 ghost use Rattle.program.specs.Sound.{known_bit, known_word, known_source, known_check};
 ghost use Rattle.program.specs.View.{seen, state, with_state};
@@ -13,11 +14,9 @@ use tokens::{Area, BitCell, WordCell};
 
 // Reading.
 impl Cpu {
-    // The value of a bit, 0 or 1.
-    fn bit_value(&self, sight: &Sight, cell: BitCell) -> u16
-        requires known { known_bit cell ≡ true }
-        ensures answer { result ≡ bit_value (seen sight.now) (state self.now) cell }
-        ensures bit { result < 2 }
+    fn bit(&self, sight: &Sight, cell: BitCell) -> bool
+        requires { known_bit cell ≡ true }
+        ensures answer { number result ≡ bit_value (seen sight.now) (state self.now) cell }
     {
         match cell.area {
             Area::Input => values::bit_among(&sight.inputs, cell.byte, cell.bit),
@@ -25,7 +24,7 @@ impl Cpu {
             Area::Change => {
                 let here = values::bit_among(&sight.inputs, cell.byte, cell.bit);
                 let before = values::bit_among(&sight.previous, cell.byte, cell.bit);
-                (here + before) % 2
+                here != before
             }
             Area::Internal => values::bit_of(self.bytes[cell.byte as usize] as u16, cell.bit),
         }
@@ -33,14 +32,14 @@ impl Cpu {
 
     // Two bytes as a word, the low one first.
     fn pair_at(&self, n: usize) -> u16
-        requires inside { n + 1 < 144 }
+        requires { n + 1 < 144 }
         ensures answer { result ≡ pair_at self.now.bytes n }
     {
-        self.bytes[n] as u16 + 256 * (self.bytes[n + 1] as u16)
+        u16::from_le_bytes([self.bytes[n], self.bytes[n + 1]])
     }
 
-    fn word_value(&self, sight: &Sight, cell: WordCell) -> u16
-        requires known { known_word cell ≡ true }
+    fn word(&self, sight: &Sight, cell: WordCell) -> u16
+        requires { known_word cell ≡ true }
         ensures answer { result ≡ word_value (seen sight.now) (state self.now) cell }
     {
         match cell {
@@ -55,23 +54,23 @@ impl Cpu {
     }
 
     pub(super) fn source_value(&self, sight: &Sight, source: Source) -> u16
-        requires known { known_source source ≡ true }
+        requires { known_source source ≡ true }
         ensures answer { result ≡ source_value (seen sight.now) (state self.now) source }
     {
         match source {
             Source::Number(v) => v,
-            Source::Bit(cell, not) => values::turned_bit(not, self.bit_value(sight, cell)),
-            Source::Word(cell, not) => values::turned_word(not, self.word_value(sight, cell)),
+            Source::Bit(cell, not) => u16::from(self.bit(sight, cell) != not),
+            Source::Word(cell, not) => values::turned_word(not, self.word(sight, cell)),
         }
     }
 
     // Whether a condition is met.
     pub(super) fn is_met(&self, sight: &Sight, check: Check) -> bool
-        requires known { known_check check ≡ true }
+        requires { known_check check ≡ true }
         ensures answer { result ≡ met (seen sight.now) (state self.now) check }
     {
         match check {
-            Check::Bit(cell, not) => values::turned_bit(not, self.bit_value(sight, cell)) == 1,
+            Check::Bit(cell, not) => self.bit(sight, cell) != not,
             Check::Compare(comparison, source) => {
                 values::compared(comparison, self.op, self.source_value(sight, source))
             }
@@ -81,42 +80,43 @@ impl Cpu {
 
 // Storing.
 impl Cpu {
-    // v into bit r of byte n of the 144.
-    fn put_bit(&mut self, n: usize, r: u8, v: u16)
-        requires inside { (n < 144) × ((r < 8) × (v < 2)) }
-        ensures answer { self.new ≡ with_state self.old (put_bit (state self.old) n r v) }
+    // Sets bit r of byte n of the 144 to 1 or 0.
+    fn put_bit(&mut self, n: usize, r: u8, on: bool)
+        requires byte { n < 144 }
+        requires bit { r < 8 }
+        ensures answer { self.new ≡ with_state self.old (put_bit (state self.old) n r (number on)) }
     {
-        self.bytes[n] = values::with_bit(self.bytes[n], r, v);
+        self.bytes[n] = values::with_bit(self.bytes[n], r, on);
         self.stored[n] = true;
     }
 
-    // v into bytes n and n + 1 of the 144.
+    // Stores v in bytes n and n + 1 of the 144, the low half first.
     fn put_pair(&mut self, n: usize, v: u16)
-        requires inside { n + 1 < 144 }
+        requires { n + 1 < 144 }
         ensures answer { self.new ≡ with_state self.old (put_pair (state self.old) n v) }
     {
-        let (low, high) = (v % 256, v / 256);
-        self.bytes[n] = low as u8;
-        self.bytes[n + 1] = high as u8;
+        let [low, high] = v.to_le_bytes();
+        self.bytes[n] = low;
+        self.bytes[n + 1] = high;
         self.stored[n] = true;
         self.stored[n + 1] = true;
     }
 
     // Only Y and F take a bit.
-    pub(super) fn store_bit(&mut self, cell: BitCell, v: u16)
-        requires known { (known_bit cell ≡ true) × (v < 2) }
-        ensures answer { self.new ≡ with_state self.old (bit_put (state self.old) cell v) }
+    pub(super) fn store_bit(&mut self, cell: BitCell, on: bool)
+        requires { known_bit cell ≡ true }
+        ensures answer { self.new ≡ with_state self.old (switch_bit_of (state self.old) cell on) }
     {
         match cell.area {
-            Area::Output => self.put_bit(128 + cell.byte as usize, cell.bit, v),
-            Area::Internal => self.put_bit(cell.byte as usize, cell.bit, v),
+            Area::Output => self.put_bit(128 + cell.byte as usize, cell.bit, on),
+            Area::Internal => self.put_bit(cell.byte as usize, cell.bit, on),
             Area::Input | Area::Change => {}
         }
     }
 
     // Only Y, F and T take a word.
     pub(super) fn store_word(&mut self, cell: WordCell, v: u16)
-        requires known { known_word cell ≡ true }
+        requires { known_word cell ≡ true }
         ensures answer { self.new ≡ with_state self.old (word_put (state self.old) cell v) }
     {
         match cell {

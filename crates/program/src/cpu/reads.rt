@@ -43,31 +43,19 @@ impl Cpu {
     pub fn byte(&self, i: u8) -> Option<u8>
         ensures answer { result ≡ (if nat_lt i 144 then Some (slice_index self.now.bytes i) else None) }
     {
-        if i < 144 {
-            Some(self.bytes[i as usize])
-        } else {
-            None
-        }
+        self.bytes.get(i as usize).copied()
     }
 
     pub fn timer(&self, i: u8) -> Option<u16>
         ensures answer { result ≡ (if nat_lt i 20 then Some (slice_index self.now.timers i) else None) }
     {
-        if i < 20 {
-            Some(self.timers[i as usize])
-        } else {
-            None
-        }
+        self.timers.get(i as usize).copied()
     }
 
     // Whether the pass has stored into byte i of the 144.
     pub fn is_stored(&self, i: u8) -> Option<bool>
         ensures answer { result ≡ (if nat_lt i 144 then Some (slice_index_or self.now.stored i false) else None) }
     {
-        if i < 144 {
-            Some(self.stored[i as usize])
-        } else {
-            None
-        }
+        self.stored.get(i as usize).copied()
     }
 }

@@ -11,27 +11,29 @@ use crate::sight::Sight;
 use stack::Stack;
 
 impl Cpu {
-    // Runs until the pass is over, and at most `allowance` steps: the steps made, and whether it is over.
+    // Runs until the pass is over, and at most `allowance` steps, and returns how many steps it made; `is_over` then says
+    // whether the pass is over. The record, the sight and the stack are the caller's and may change between two calls, so
+    // they are parameters and no part of the machine.
     pub fn run(
         &mut self,
         program: &Program,
         sight: &Sight,
         stack: &mut Stack<'_, Entry>,
         allowance: u16,
-    ) -> (u16, bool)
-        ensures ran { view self.new (entries stack.new) ≡ ticks (seen sight.now) (room stack.old) program.now.code result.0 (view self.old (entries stack.old)) }
-        ensures allowed { result.0 ≤ allowance }
-        ensures live { (k : ℕ) → k < result.0 → (ticks (seen sight.now) (room stack.old) program.now.code k (view self.old (entries stack.old))).over ≡ false }
-        ensures over { result.1 ≡ self.new.over }
-        ensures used { result.1 ≡ false → result.0 ≡ allowance }
+    ) -> u16
+        ensures ran { view self.new (entries stack.new) ≡ ticks (seen sight.now) (room stack.old) program.now.code result (view self.old (entries stack.old)) }
+        ensures allowed { result ≤ allowance }
+        ensures live { (k : ℕ) → k < result → (ticks (seen sight.now) (room stack.old) program.now.code k (view self.old (entries stack.old))).over ≡ false }
+        ensures used { self.new.over ≡ false → result ≡ allowance }
         ensures room { room stack.new ≡ room stack.old }
         ensures lender { lender stack.new ≡ lender stack.old }
     {
-        let mut made: u16 = 0;
-        while made < allowance && !self.over {
+        for made in 0..allowance {
+            if self.over {
+                return made;
+            }
             self.execute(program, sight, stack);
-            made += 1;
         }
-        (made, self.over)
+        allowance
     }
 }

@@ -1,26 +1,22 @@
-ghost use Rattle.std.specs.Prelude.{◌≡◌, ◌-◌, ◌<◌, ◌≤◌, true, false, [], ◌∷◌, ◌++◌, length, replicate};
-ghost use Rattle.program.specs.Sound.{known, inside, sound, padded};
+ghost use Rattle.std.specs.Prelude.{◌≡◌, ◌-◌, ◌≤◌, [], ◌∷◌, ◌++◌, length, replicate, is_ok, OnOk, OnErr};
+ghost use Rattle.program.specs.Sound.{sound, padded};
 ghost use Rattle.program.specs.declared.instruction.Instruction.TheVariants.{Return};
 
 use crate::instruction::Instruction;
-use crate::record::{Program, checks};
+use crate::record::{Program, Unsound, checks};
 
 // Writes the instructions, and `Return` at each place behind them.
 fn fill(slots: &mut [Instruction], code: &[Instruction])
     requires { length code.now ≤ length slots.old }
     ensures answer { slots.new ≡ code.now ++ replicate (length slots.old - length code.now) Return }
 {
-    for i in 0..slots.len() {
-        slots[i] = if i < code.len() {
-            code[i]
-        } else {
-            Instruction::Return
-        };
-    }
+    let (used, unused) = slots.split_at_mut(code.len());
+    used.copy_from_slice(code);
+    unused.fill(Instruction::Return);
 }
 
 impl Program {
-    // The record of the list :001 J1 :000 J0.
+    // Two modules of nothing but their end, :001 at the first place and :000 at the second.
     pub fn empty() -> Program
         ensures code { result.code ≡ padded (Return ∷ Return ∷ []) }
         ensures len { result.len ≡ 2 }
@@ -36,21 +32,21 @@ impl Program {
     }
 
     // Takes the code if it is sound; else nothing changes.
-    pub fn load(&mut self, code: &[Instruction], quick: u16, slow: u16) -> bool
-        ensures answer { result ≡ sound code.now quick slow }
-        ensures code { result ≡ true → self.new.code ≡ padded code.now }
-        ensures len { result ≡ true → self.new.len ≡ length code.now }
-        ensures quick { result ≡ true → self.new.quick ≡ quick }
-        ensures slow { result ≡ true → self.new.slow ≡ slow }
-        ensures refused { result ≡ false → self.new ≡ self.old }
+    pub fn load(&mut self, code: &[Instruction], quick: u16, slow: u16) -> Result<(), Unsound>
+        ensures answer { is_ok result ≡ sound code.now quick slow }
+        ensures code { OnOk result (self.new.code ≡ padded code.now) }
+        ensures len { OnOk result (self.new.len ≡ length code.now) }
+        ensures quick { OnOk result (self.new.quick ≡ quick) }
+        ensures slow { OnOk result (self.new.slow ≡ slow) }
+        ensures refused { OnErr result (self.new ≡ self.old) }
     {
         if !checks::is_sound(code, quick, slow) {
-            return false;
+            return Err(Unsound);
         }
         fill(&mut self.code, code);
         self.len = code.len() as u16;
         self.quick = quick;
         self.slow = slow;
-        true
+        Ok(())
     }
 }

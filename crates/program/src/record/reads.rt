@@ -13,11 +13,10 @@ impl Program {
         ensures known { known result ≡ true }
         ensures inside { inside self.now.len at result ≡ true }
     {
-        if at < 2048 {
-            self.code[at as usize]
-        } else {
-            Instruction::Return
-        }
+        self.code
+            .get(at as usize)
+            .copied()
+            .unwrap_or(Instruction::Return)
     }
 
     // How many instructions there are.

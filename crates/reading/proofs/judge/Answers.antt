@@ -16,7 +16,7 @@ loop-word-preserved c =
     let came = c.in_ok-word.was ∙ ap Ok c.in-Some.is in
     let same = ap (λ t. t.now) c.next_word.ensures.same in
     let turn = turned text old.text.now new.text.now tally.count old.here new.here c.next_word.result w came c.loop-word.invariant.0 same c.next_word.ensures.goes c.next_word.ensures.is new.ok.0 c.loop-word.invariant.1 in
-    let one = c.note-tally.ensures in (
+    let one = c.note.ensures in (
       same ∙ c.loop-word.invariant.0,
       omega (arith, turn.goes, ap (λ t. t.count) one),
       subst (λ t. tallied t (left_of text t.count new.here) ≡ tallied fresh (scan_of text)) (sym one)

@@ -1,32 +1,23 @@
-use Rattle.std.proofs.Common.{refl, arith}
-use Rattle.std.proofs.lemmas.Bool.{both_ways}
-use Rattle.std.proofs.lemmas.Bool.Decides.{not_from_Decides}
-use Rattle.rules.specs.Labels.{kinds_of, kind_at}
-use Rattle.rules.proofs.Places.{sweeps, swept_lit}
-use Rattle.rules.proofs.Overlaps.{covers_some, some_covers}
+use Rattle.std.proofs.Common.{◌≡◌, ℕ, true, Option, None, rules, arith}
+use Rattle.std.proofs.lemmas.Iterator.{cases_from_any}
+use Rattle.tokens.specs.Tokens.{Kind, bracket_opens}
+use Rattle.grammar.specs.Verdict.{kinds_of}
+use Rattle.rules.specs.Tables.{lit, StoresAmong, Touches}
+use Rattle.rules.specs.Walk.{standing, seen}
+use Rattle.rules.proofs.Searches.{any_place}
+use Rattle.rules.proofs.Walks.{length-standing, over_homes, at_place}
 use Rattle.rules.proofs.touched.Goals as goal
-use Rattle.rules.proofs.touched.Goals.{then-stores_among+else-is_lit, else-stores_among}
-
-pub returns-then-is_lit : goal.returns-then-is_lit
-returns-then-is_lit c = (
-  λ t. (
-    c.loop-j.j,
-    c.loop-j-test.true,
-    (
-      swept_lit c.loop-j.invariant c.args.marks.now c.is_lit.ensures c.if-is_lit.true,
-      covers_some (kind_at (kinds_of c.args.tokens.now) c.loop-j.j) _ _ _ c.role_at.ensures (c.stores_among.ensures.0 c.if-stores_among.true),
-    ),
-  ),
-  λ p. refl,
-)
-
-pub loop-j-preserved : goal.loop-j-preserved
-loop-j-preserved c =
-    sweeps c.loop-j.invariant c.home_after-within.ensures
-    (elim c.if-stores_among.branch [
-      | then-stores_among+else-is_lit w ↦ λ p. both_ways _ (swept_lit c.loop-j.invariant c.args.marks.now w.is_lit.ensures w.if-is_lit.false) p.0
-      | else-stores_among w ↦ λ p. not_from_Decides _ c.stores_among.ensures w.if-stores_among.false (some_covers (kind_at (kinds_of c.args.tokens.now) c.loop-j.j) _ _ _ c.role_at.ensures p.1)
-    ])
 
 pub returns : goal.returns
-returns c = (λ t. absurd (both_ways _ refl t), λ p. absurd (c.loop-j.invariant.clear p.0 (omega (arith, p.1, c.loop-j-test.false)) p.2))
+returns c =
+    let Yes = λ (x : Option ℕ × Kind). (lit c.args.set.now.marks x.0 ≡ true) × StoresAmong x.1 c.args.bytes in
+    let No = λ (x : Option ℕ × Kind). (lit c.args.set.now.marks x.0 ≡ true) × StoresAmong x.1 c.args.bytes → ⊥ in
+    let P = Touches (kinds_of c.args.tokens.now) c.args.set.now.marks c.args.bytes in
+    let h =
+    any_place Yes No (standing None (kinds_of c.args.tokens.now)) (None, bracket_opens) P
+    (at_place c.args.tokens.now Yes P (λ k y. y))
+    (at_place c.args.tokens.now No (λ k. P k → ⊥) (λ k n. n))
+    c.any.result
+    (cases_from_any {v = seen} c.any.new.self _ _ Yes No c.any.ensures.ran (over_homes c.args.tokens.now c.over.ensures.all) (λ x q k. search rules) (λ x q k. search rules)) in
+    let l = length-standing None (kinds_of c.args.tokens.now) in
+    (λ t. let p = h.0 t in (p.0, omega (arith, p.1), p.2), λ p. h.1 (p.0, omega (arith, p.1), p.2))

@@ -1,18 +1,9 @@
-ghost use Rattle.std.specs.Prelude.{◌≡◌, ◌<◌, ◌≤◌, [], length, ◌==◌, slice_index_or};
+ghost use Rattle.std.specs.Prelude.{◌≡◌, ◌≤◌, [], reverse, length, ◌==◌};
 ghost use Rattle.stack.specs.Entries.{front, entries, held, room, lender, newest, without_newest, with_newest};
 ghost use Rattle.stack.specs.Entries.{take_up_answer, taken_up, push_answer, pushed};
 ghost use Rattle.stack.specs.Entries.{held_after_take_up, held_after_push, held_after_pop, held_after_replace};
-ghost use Rattle.stack.specs.Places.{Top, Free};
 
 use crate::stacks::{Full, Stack};
-
-// What a slot holds.
-fn read<T: Copy>(slots: &[T], at: usize) -> T
-    requires inside { at < length slots.now }
-    ensures answer { result ≡ slice_index_or slots.now at result }
-{
-    slots[at]
-}
 
 impl<'m, T: Copy> Stack<'m, T> {
     // An empty stack over these slots.
@@ -47,17 +38,14 @@ impl<'m, T: Copy> Stack<'m, T> {
         ensures within { result ≤ room self.now }
         ensures leaves { front result (held self.now) ≡ entries self.now }
     {
-        match self.top() {
-            Some(at) => at + 1,
-            None => 0,
-        }
+        self.used().len()
     }
 
     // Whether there is no entry.
     pub fn is_empty(&self) -> bool
         ensures answer { result ≡ (length (entries self.now) == 0) }
     {
-        self.len() == 0
+        self.used().is_empty()
     }
 
     // Adds an entry, which is then the newest. Refused, and nothing changes, if all slots are in use.
@@ -68,14 +56,12 @@ impl<'m, T: Copy> Stack<'m, T> {
         ensures room { room self.new ≡ room self.old }
         ensures lender { lender self.new ≡ lender self.old }
     {
-        match self.free() {
-            Some(next) => {
-                self.slots[next] = x;
-                self.len = next + 1;
-                Ok(())
-            }
-            None => Err(Full),
+        if self.len == self.slots.len() {
+            return Err(Full);
         }
+        self.slots[self.len] = x;
+        self.len += 1;
+        Ok(())
     }
 
     // Removes the newest entry and answers it. Its slot keeps what it held.
@@ -86,23 +72,16 @@ impl<'m, T: Copy> Stack<'m, T> {
         ensures room { room self.new ≡ room self.old }
         ensures lender { lender self.new ≡ lender self.old }
     {
-        match self.top() {
-            Some(at) => {
-                self.len = at;
-                Some(self.slots[at])
-            }
-            None => None,
-        }
+        let newest = self.peek()?;
+        self.len -= 1;
+        Some(newest)
     }
 
     // The newest entry.
     pub fn peek(&self) -> Option<T>
         ensures answer { result ≡ newest (entries self.now) }
     {
-        match self.top() {
-            Some(at) => Some(read(self.slots, at)),
-            None => None,
-        }
+        self.used().last().copied()
     }
 
     // Puts an entry in the place of the newest, which it answers. An empty stack stays empty.
@@ -113,35 +92,15 @@ impl<'m, T: Copy> Stack<'m, T> {
         ensures room { room self.new ≡ room self.old }
         ensures lender { lender self.new ≡ lender self.old }
     {
-        match self.top() {
-            Some(at) => {
-                let old = self.slots[at];
-                self.slots[at] = x;
-                Some(old)
-            }
-            None => None,
-        }
+        let newest = self.peek()?;
+        self.slots[self.len - 1] = x;
+        Some(newest)
     }
 
-    // The slot of the newest entry.
-    fn top(&self) -> Option<usize>
-        ensures place { Top self.now result }
+    // The slots in use: the entries, the newest last.
+    fn used(&self) -> &[T]
+        ensures entries { reverse result.now ≡ entries self.now }
     {
-        if self.len == 0 {
-            None
-        } else {
-            Some(self.len - 1)
-        }
-    }
-
-    // The slot that the next entry goes to.
-    fn free(&self) -> Option<usize>
-        ensures place { Free self.now result }
-    {
-        if self.len < self.slots.len() {
-            Some(self.len)
-        } else {
-            None
-        }
+        &self.slots[..self.len]
     }
 }

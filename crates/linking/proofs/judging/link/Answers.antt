@@ -1,5 +1,5 @@
 use Rattle.linking.proofs.Joining.{parsed_list}
 use Rattle.linking.proofs.judging.link.Goals as goal
 
-pub link_tokens-requires : goal.link_tokens-requires
-link_tokens-requires c = parsed_list c.args.text.now c.parse.new.memory _ c.in_ok-shape.shape c.in_ok-shape.ensures.verdict c.parse.ensures.memory
+pub link-requires : goal.link-requires
+link-requires c = parsed_list c.args.text.now c.parse.new.memory _ c.in_ok-shape.shape c.in_ok-shape.ensures.verdict c.parse.ensures.memory

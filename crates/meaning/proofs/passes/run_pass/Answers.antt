@@ -20,10 +20,10 @@ returns c =
       meant = meant i code c.args.place (beginning c.args.bytes c.args.timers) c.args.allowance _
           (view c.run-steps.new.self (entries c.run-steps.new.stack))
           (record {
-            ran = a.ran ∙ from c.run-steps.result.0;
+            ran = a.ran ∙ from c.run-steps.result;
             allowed = a.allowed;
             live = λ k h. ap (λ (x : Config). x.over) (sym (from k)) ∙ a.live k h;
-            ends = a.over;
+            ends = refl;
             used = a.used;
           })
           refl;

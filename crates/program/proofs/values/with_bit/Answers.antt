@@ -1,9 +1,10 @@
-use Rattle.std.proofs.Common.{arith, rules}
-use Rattle.program.proofs.Bits.{bit_within, written_fits}
+use Rattle.std.proofs.Common.{ap, ◌∙◌, sym, arith}
+use Rattle.program.specs.Cells.{number, with_bit}
+use Rattle.program.proofs.Bits.{bit_set, bit_cleared}
 use Rattle.program.proofs.values.with_bit.Goals as goal
 
-pub overflow_sub-result : goal.overflow_sub-result
-overflow_sub-result c = bit_within c.args.byte c.args.r c.bit_of.result (omega arith) c.bit_of.ensures.answer
+pub returns-then-on : goal.returns-then-on
+returns-then-on c = record { answer = bit_set c.args.byte c.args.r c.requires ∙ ap (λ b. with_bit c.args.byte c.args.r (number b)) (sym c.if-on.true) }
 
-pub overflow_cast-result : goal.overflow_cast-result
-overflow_cast-result c = search (rules, written_fits c.args.byte c.args.r c.bit_of.result c.args.v (omega arith) (omega arith) (omega arith) c.bit_of.ensures.answer)
+pub returns-else-on : goal.returns-else-on
+returns-else-on c = record { answer = bit_cleared c.args.byte c.args.r (omega arith) c.requires ∙ ap (λ b. with_bit c.args.byte c.args.r (number b)) (sym c.if-on.false) }

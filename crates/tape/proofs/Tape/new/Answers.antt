@@ -1,21 +1,18 @@
-use Rattle.std.proofs.Common.{Err, ap, ◌∙◌}
-use Rattle.std.proofs.lemmas.Result.{err_from_is_err_and}
-use Rattle.tape.specs.Says.{shown, started}
 use Rattle.tape.proofs.Plays.{plays}
-use Rattle.tape.proofs.Tapes.{one_verdict}
+use Rattle.tape.proofs.Tapes.{one_verdict, accepted}
 use Rattle.tape.proofs.Tape.new.Goals as goal
 
-pub returns-in_err-check : goal.returns-in_err-check
-returns-in_err-check c =
-    let bytes = c.args.bytes.now in
-    let p = err_from_is_err_and c.from_residual.result c.from_residual.ensures.1 in
-    record {
-      answer = ap shown (p.1 ∙ ap Err p.2) ∙ ap (started bytes) c.in_err-check.ensures;
-      verdict = one_verdict bytes;
-      plays = plays bytes;
-    }
+pub returns-in_err-check-clause-verdict : goal.returns-in_err-check-clause-verdict
+returns-in_err-check-clause-verdict c = one_verdict c.args.bytes.now
 
-pub returns : goal.returns
-returns c =
-    let bytes = c.args.bytes.now in
-    record { answer = ap (started bytes) c.in_ok-check.ensures; verdict = one_verdict bytes; plays = plays bytes }
+pub returns-in_err-check-clause-plays : goal.returns-in_err-check-clause-plays
+returns-in_err-check-clause-plays c = plays c.args.bytes.now
+
+pub invariant_of-result-clause-whole : goal.invariant_of-result-clause-whole
+invariant_of-result-clause-whole c = ∣ accepted c.args.bytes.now c.in_ok-check.ensures ∣₁
+
+pub returns-clause-verdict : goal.returns-clause-verdict
+returns-clause-verdict c = one_verdict c.args.bytes.now
+
+pub returns-clause-plays : goal.returns-clause-plays
+returns-clause-plays c = plays c.args.bytes.now

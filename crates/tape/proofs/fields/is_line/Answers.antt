@@ -1,29 +1,21 @@
-use Rattle.std.proofs.Common.{◌≡◌, ◌+◌, ◌-◌, ◌*◌, take, drop, sym, refl, ap, ◌∙◌, arith}
-use Rattle.tape.specs.Fields.{field_of, stands, line_holds}
-use Rattle.tape.proofs.Lines.{line_more, line_stops, line_ends}
+use Rattle.std.proofs.Common.{◌&&◌, eqb, get_or, sym, ap, ◌∙◌, rules, lit<}
+use borrow.Author.Tests.{tests}
+use Rattle.std.proofs.lemmas.Iterator.Search.{all_from_yields_List}
+use Rattle.tape.specs.Fields.{field_of, stands}
+use Rattle.tape.proofs.Lines.{holds_by_fields}
+use Rattle.tape.proofs.Pieces.{YieldsList-from_chunks_exact}
 use Rattle.tape.proofs.fields.is_line.Goals as goal
 
-pub loop-k-init : goal.loop-k-init
-unfolding line_holds
-loop-k-init c = refl
+pub returns-then-all : goal.returns-then-all
+returns-then-all c =
+    let line = c.args.line.now in
+    let fields = YieldsList-from_chunks_exact 6 line (lit< tt) c.chunks_exact.ensures.rest c.chunks_exact.ensures.size in
+    let all = all_from_yields_List (λ f. stands (field_of f)) _ _ c.all.result c.all.ensures.ran fields (λ x b q k. search (rules, tests)) in
+    sym (ap (λ b. b && eqb (get_or line 48 0) 10) c.if-all.true) ∙ holds_by_fields line c.all.result c.requires all
 
-pub loop-k-preserved : goal.loop-k-preserved
-loop-k-preserved c =
-    let xs = c.args.line.now in
-    let k = c.loop-k.k in
-    let six : 6 * k + 6 - 6 * k ≡ 6 = omega arith in
-    let f = c.read_field.ensures ∙ ap (λ n. field_of (take n (drop (6 * k) xs))) six in
-    line_more xs k c.loop-k-test.true (sym (c.if-not-is_entry.ensures ∙ ap stands f)) ∙ c.loop-k.invariant
-
-pub returns-then-not-is_entry : goal.returns-then-not-is_entry
-returns-then-not-is_entry c =
-    let xs = c.args.line.now in
-    let k = c.loop-k.k in
-    let six : 6 * k + 6 - 6 * k ≡ 6 = omega arith in
-    let f = c.read_field.ensures ∙ ap (λ n. field_of (take n (drop (6 * k) xs))) six in
-    sym (line_stops xs k c.loop-k-test.true (sym (c.if-not-is_entry.ensures ∙ ap stands f))) ∙ c.loop-k.invariant
-
-pub returns : goal.returns
-returns c =
-    let done : c.loop-k.k ≡ 8 = omega arith in
-    sym (line_ends c.args.line.now c.loop-k.k done) ∙ c.loop-k.invariant
+pub returns-else-all : goal.returns-else-all
+returns-else-all c =
+    let line = c.args.line.now in
+    let fields = YieldsList-from_chunks_exact 6 line (lit< tt) c.chunks_exact.ensures.rest c.chunks_exact.ensures.size in
+    let all = all_from_yields_List (λ f. stands (field_of f)) _ _ c.all.result c.all.ensures.ran fields (λ x b q k. search (rules, tests)) in
+    c.if-all.false ∙ sym (ap (λ b. b && eqb (get_or line 48 0) 10) c.if-all.false) ∙ holds_by_fields line c.all.result c.requires all

@@ -1,16 +1,18 @@
-use Rattle.std.proofs.Common.{get_or, fold, sym, ap, ◌∙◌, arith}
-use Rattle.std.proofs.lemmas.List.{take_all}
-use Rattle.std.proofs.lemmas.List.Sums.{fold_more}
-use Rattle.tape.specs.declared.fields.Field.TheVariants.{Blank}
-use Rattle.tape.specs.Fields.{step_of, field_of}
+use Rattle.std.proofs.Common.{◌≡◌, ℕ, length, get_or, option_map, Option, ap, ◌∙◌, rules, arith}
+use Rattle.std.specs.Result.{result_ok}
+use Rattle.tape.specs.Format.{number}
+use Rattle.tape.specs.Writing.{entry_from}
+use Rattle.tape.proofs.Columns.{says_dash, says_number}
 use Rattle.tape.proofs.fields.read_field.Goals as goal
 
-pub loop-byte-preserved : goal.loop-byte-preserved
-loop-byte-preserved c =
-    c.step-field.ensures
-    ∙ ap (λ f. step_of f (get_or c.args.bytes.now c.loop-byte.byte-index 0)) c.loop-byte.invariant
-    ∙ sym (fold_more step_of Blank c.args.bytes.now c.loop-byte.byte-index 0 c.loop-byte-test.true)
+pub returns-in-45 : goal.returns-in-45
+returns-in-45 c =
+    let text = c.without_blanks.result.now in
+    says_dash c.args.columns.now text c.without_blanks.ensures (omega arith) (search rules)
 
-pub returns : goal.returns
-unfolding field_of
-returns c = c.loop-byte.invariant ∙ ap (fold step_of Blank) (take_all c.loop-byte.byte-index c.args.bytes.now (omega arith))
+pub returns-in_default : goal.returns-in_default
+returns-in_default c =
+    let text = c.without_blanks.result.now in
+    let other : length text ≡ 1 → get_or text 0 0 ≡ 45 → ⊥ = search rules in
+    let read : option_map entry_from (result_ok c.ok_or.result) ≡ option_map number c.read_number.result = search rules in
+    read ∙ ap (λ (o : Option ℕ). option_map number o) c.read_number.ensures ∙ says_number c.args.columns.now text c.without_blanks.ensures other

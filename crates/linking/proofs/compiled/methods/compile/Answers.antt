@@ -10,30 +10,25 @@ use Rattle.linking.proofs.Passing.{runs_as_written}
 use Rattle.linking.proofs.Verdicts.{one_verdict, one_list}
 use Rattle.linking.proofs.compiled.methods.compile.Goals as goal
 
-pub returns-in_err-program : goal.returns-in_err-program
-returns-in_err-program c =
+pub returns-in_err-into : goal.returns-in_err-into
+returns-in_err-into c =
     let text = c.args.text.now in
     let e = err_from_is_err_and c.from_residual.result c.from_residual.ensures.1 in
     let is = sym (e.1 ∙ ap Err e.2) in
     record {
-      verdict = subst (Verdict text) is c.in_err-program.ensures;
+      verdict = subst (Verdict text) is c.in_err-into.ensures;
       one = one_verdict text;
       recorded = subst (λ (r : Result Figures LinkFault). RecordAfter text r c.empty.result) is c.empty.ensures.recorded;
       passes = runs_as_written;
     }
 
-pub invariant_of-into : goal.invariant_of-into
-invariant_of-into c =
-    let l = c.in_ok-program.ensures in
-    record { compiled = ∣ record { text = c.args.text.now; modules = l.modules; accepted = l.accepted; recorded = l.recorded } ∣₁ }
-
 pub returns : goal.returns
 returns c =
     let text = c.args.text.now in
-    let l = c.in_ok-program.ensures in
+    let l = c.in_ok-into.ensures in
     record {
       verdict = (l.modules, l.accepted);
       one = one_verdict text;
-      recorded = λ ms a. subst (λ (ns : List Module). RecordOf ns c.in_ok-program.field-0.program c.in_ok-program.field-0.figures) (one_list text l.modules ms _ _ l.accepted a) l.recorded;
+      recorded = λ ms a. subst (λ (ns : List Module). RecordOf ns c.in_ok-into.field-0.program c.in_ok-into.field-0.figures) (one_list text l.modules ms _ _ l.accepted a) l.recorded;
       passes = runs_as_written;
     }

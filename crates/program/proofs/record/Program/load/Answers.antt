@@ -15,6 +15,7 @@ invariant_of-self c =
     let is : c.fill.new.slots ≡ padded code = c.fill.ensures.answer ∙ ap (λ (m : ℕ). code ++ replicate (m - len) Return) whole in record {
       whole = c.fill.auto.slots ∙ whole;
       within = p.short;
-      entries = (p.quick_inside, p.slow_inside);
+      quick_inside = p.quick_inside;
+      slow_inside = p.slow_inside;
       sound = λ n. ap (λ (xs : List Instruction). fine xs len n) is ∙ padded_fine code p.each n;
     }

@@ -1,13 +1,13 @@
-use Rattle.std.proofs.Common.{length, sym, ◌∙◌}
-use Rattle.program.proofs.Soundness.{all_fine_more, not_all_fine}
+use Rattle.std.proofs.Common.{◌≡◌, length, true, false, rules, refl, arith}
+use Rattle.std.proofs.lemmas.Iterator.{cases_from_all, YieldsList-from_range}
+use Rattle.program.specs.Sound.{fine}
+use Rattle.program.proofs.Soundness.{all_fine_places}
 use Rattle.program.proofs.record.checks.are_all_fine.Goals as goal
+use borrow.Author.Tests.{tests}
 
-pub returns-then-not-is_fine : goal.returns-then-not-is_fine
-returns-then-not-is_fine c =
+pub returns : goal.returns
+returns c =
     let code = c.args.code.now in
-    record { answer = sym (not_all_fine code (length code) c.loop-at.at (length code) c.loop-at-test.true (sym c.is_fine.ensures.answer ∙ c.if-not-is_fine.true)) }
-
-pub loop-at-preserved : goal.loop-at-preserved
-loop-at-preserved c =
-    let code = c.args.code.now in
-    all_fine_more code (length code) c.loop-at.at c.loop-at.invariant (sym c.is_fine.ensures.answer ∙ c.if-not-is_fine.false)
+    let len = length code in record {
+      answer = all_fine_places code len c.all.result (cases_from_all _ _ _ (λ n. fine code len n ≡ true) (λ n. fine code len n ≡ false) c.all.ensures.ran (YieldsList-from_range 0 len len refl (omega arith)) (λ x q k. search (rules, tests)) (λ x q k. search (rules, tests)));
+    }

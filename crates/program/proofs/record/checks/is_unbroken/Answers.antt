@@ -1,11 +1,16 @@
-use Rattle.std.proofs.Common.{sym, ◌∙◌}
-use Rattle.program.proofs.Soundness.{unbroken_more, broken}
+use Rattle.std.proofs.Common.{◌≡◌, ◌+◌, true, false, rules, refl}
+use Rattle.std.specs.List.{slice_range}
+use Rattle.std.proofs.lemmas.Iterator.{cases_from_all, YieldsList-from_slice}
+use Rattle.program.specs.Sound.{ends}
+use Rattle.program.proofs.Soundness.{unbroken_slice}
 use Rattle.program.proofs.record.checks.is_unbroken.Goals as goal
+use borrow.Author.Tests.{tests}
 
-pub returns-then-ends : goal.returns-then-ends
-returns-then-ends c = record {
-  answer = sym (broken c.args.code.now c.args.from c.loop-k.k c.args.count c.loop-k-test.true (sym c.ends.ensures.answer ∙ c.if-ends.true));
-}
-
-pub loop-k-preserved : goal.loop-k-preserved
-loop-k-preserved c = unbroken_more c.args.code.now c.args.from c.loop-k.k c.loop-k.invariant (sym c.ends.ensures.answer ∙ c.if-ends.false)
+pub returns : goal.returns
+returns c =
+    let code = c.args.code.now in
+    let n = c.args.from in
+    let count = c.args.count in
+    let xs = slice_range code n (n + count) in record {
+      answer = unbroken_slice code xs n count c.all.result c.requires refl (cases_from_all _ _ _ (λ i. ends i ≡ false) (λ i. ends i ≡ true) c.all.ensures.ran (YieldsList-from_slice xs cc) (λ x q k. search (rules, tests)) (λ x q k. search (rules, tests)));
+    }
