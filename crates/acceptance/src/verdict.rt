@@ -4,7 +4,7 @@ use faults::{Fault, Layer, Place};
 use std::process::Abort;
 use std::test::Fail;
 
-// The text is refused by this cause, at this place.
+// The text is refused by this cause, at this place. Cause, line and column and no struct: so a row of a table stays one line.
 pub(crate) fn refuses<T: Drop, F: Fault<Place = Place>>(
     rt: &impl Abort,
     row: usize,

@@ -26,7 +26,8 @@ fn byte_of(cpu: &Cpu, area: Area, byte: u8) -> u8 {
     cpu.byte(index).unwrap_or(0)
 }
 
-// What a bit cell holds. The remainder changes no bit of a list: by it the shift fits.
+// What a bit cell holds. Not by the reads of `Cpu`, which require that there is such a cell: this and `word_value` are for
+// printing, and ask nothing. The remainder changes no bit of a list: by it the shift fits.
 fn bit_value(cpu: &Cpu, cell: BitCell) -> u8 {
     (byte_of(cpu, cell.area, cell.byte) >> (cell.bit % 8)) % 2
 }

@@ -20,7 +20,8 @@ fn layer_of(cause: u8) -> Layer {
     }
 }
 
-// The text is refused so, and the record is then that of two empty modules.
+// The text is refused so, and the record is then that of two empty modules. Cause, line and column and no struct: so a row of a
+// table stays one line.
 pub(crate) fn refuses(
     rt: &impl Abort,
     row: usize,

@@ -1,5 +1,4 @@
 // Parts of a list as a terminal shows them.
-use bstr::ByteSlice;
 use std::fmt;
 use std::fmt::Write;
 
@@ -7,6 +6,20 @@ use std::fmt::Write;
 const WIDTH: usize = 100;
 
 const BEFORE: usize = 60;
+
+// Writes a text, each character as `shown` has it.
+fn write_text<W: fmt::Write, F: Fn(char) -> char>(
+    f: &mut fmt::Formatter<W>,
+    text: &str,
+    shown: &F,
+) -> fmt::Result
+    requires { F.IsAlwaysCallable shown.now }
+{
+    for c in text.chars() {
+        f.write_char(shown(c))?;
+    }
+    Ok(())
+}
 
 // Writes bytes as text, each character as `shown` has it; what is no text is U+FFFD.
 fn write_chars<W: fmt::Write, F: Fn(char) -> char>(
@@ -16,8 +29,11 @@ fn write_chars<W: fmt::Write, F: Fn(char) -> char>(
 ) -> fmt::Result
     requires { F.IsAlwaysCallable shown }
 {
-    for c in bytes.chars() {
-        f.write_char(shown(c))?;
+    for chunk in bytes.utf8_chunks() {
+        write_text(f, chunk.valid(), &shown)?;
+        if !chunk.invalid().is_empty() {
+            f.write_char(shown(char::REPLACEMENT_CHARACTER))?;
+        }
     }
     Ok(())
 }

@@ -20,8 +20,8 @@ pub fn print_fault<F: Fault>(
     )
 }
 
-// The line that a place of a list stands in, and a mark under the column. A list that is too long has the place 0, 0, and no
-// line is shown.
+// The line that a place of a list stands in, and a mark under the column. The rules give a list that is too long the
+// place 0, 0, so no line is shown.
 fn print_source(rt: &impl Print, at: Location<'_>) -> io::Result<()> {
     if at.place.line == 0 {
         return Ok(());

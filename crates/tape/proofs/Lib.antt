@@ -5,3 +5,4 @@ mod Tapes
 mod Plays
 mod Written
 mod Calls
+pub mod Digits

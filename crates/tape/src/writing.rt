@@ -1,19 +1,39 @@
 // Writes the lines of a tape.
-ghost use Rattle.std.specs.Prelude.{◌≡◌, map};
-ghost use Rattle.tape.specs.Format.{field_bytes, line_bytes};
+ghost use Rattle.std.specs.Prelude.{◌≡◌, ◌+◌, ◌%◌, map};
+ghost use Rattle.tape.specs.Format.{number, field_bytes, line_bytes};
 ghost use Rattle.tape.specs.Writing.{entry_from};
 
-use itoa::Buffer;
+// The last digit of a number.
+fn last_digit(n: u16) -> u8
+    ensures { result ≡ 48 + n % 10 }
+{
+    b'0' + (n % 10) as u8
+}
 
-// The field of a number, or of a silent input, right-justified.
+// The field of a number, right-justified. Digit by digit and not printed: what prints a number writes from the left.
+fn number_field(n: u16) -> [u8; 6]
+    ensures { result ≡ field_bytes (number n) }
+{
+    let (d, c, b, a) = (
+        last_digit(n),
+        last_digit(n / 10),
+        last_digit(n / 100),
+        last_digit(n / 1000),
+    );
+    match n {
+        0..=9 => [b' ', b' ', b' ', b' ', b' ', d],
+        10..=99 => [b' ', b' ', b' ', b' ', c, d],
+        100..=999 => [b' ', b' ', b' ', b, c, d],
+        1000..=9999 => [b' ', b' ', a, b, c, d],
+        _ => [b' ', last_digit(n / 10000), a, b, c, d],
+    }
+}
+
+// The field of a number, or of a silent input.
 fn write_field(entry: Option<u16>) -> [u8; 6]
     ensures { result ≡ field_bytes (entry_from entry) }
 {
-    let mut buffer = Buffer::new();
-    let text = entry.map_or("-", |n| buffer.format(n));
-    let mut field = [b' '; 6];
-    field[6 - text.len()..].copy_from_slice(text.as_bytes());
-    field
+    entry.map_or(*b"     -", number_field)
 }
 
 // A line of eight numbers; `None` is a silent input.
