@@ -1,9 +1,8 @@
 -- What one turn of each loop keeps. Assumes nothing.
-use Rattle.std.proofs.Common.{◌≡◌, ℕ, zero, suc, ◌+◌, ◌-◌, ◌<◌, ◌≤◌, Bool, true, false, cond, not, List, [], ◌∷◌, map, length, get_or, take, drop, Some, None, Option, Bor, sym, refl, ap, ◌∙◌, add-one, arith}
-use Rattle.std.proofs.lemmas.List.{length-map, get_or-map, at_drop_more, drop-map, take_rest, drop_more}
-use Rattle.std.specs.List.{sum_by, prefix_len}
-use Rattle.std.proofs.lemmas.List.Sums.{sum_by-cons, take_while-cons, prefix_len-le-length}
-use Rattle.std.proofs.lemmas.List.Folds.{length-prefix_len}
+use Rattle.std.proofs.Common.{◌≡◌, ℕ, zero, suc, ◌+◌, ◌-◌, ◌<◌, ◌≤◌, Bool, true, false, cond, List, [], ◌∷◌, map, length, get_or, take, drop, Some, None, Option, Bor, sym, refl, ap, ◌∙◌, add-one, arith}
+use Rattle.std.proofs.lemmas.List.{length-map, get_or-map, at_drop_more, at_drop_all, drop-map, take_rest, drop_more}
+use Rattle.std.specs.List.{sum_by}
+use Rattle.std.proofs.lemmas.List.Sums.{sum_by-cons}
 use Rattle.std.proofs.lemmas.Fn.{fronts}
 use Rattle.std.proofs.lemmas.Iterator.{YieldsList}
 use Rattle.std.proofs.lemmas.Iterator.Consumers.{YieldsList-from_shown}
@@ -115,18 +114,25 @@ total_small [] = omega arith
 total_small (k ∷ ks) = omega (arith, weight_small k, total_small ks)
 
 -- ---- to a label
-abbrev pub before_label : ℕ → List Kind → List Kind
-before_label l ks = take (prefix_len (λ k. not (labels l k)) ks) ks
+pub record Sought (ts : List Placed) (l i first n : ℕ) : Type 0 where
+  pub few : n ≤ first + i
+  pub same : place_in l n (drop i (kinds_of ts)) ≡ place_in l first (kinds_of ts)
 
-pub place_in-sum_by : (l n : ℕ) (ks : List Kind) → n + sum_by weight (before_label l ks) ≡ place_in l n ks
-place_in-sum_by l n [] = omega arith
-place_in-sum_by l n (k ∷ ks) = ap (λ xs. n + sum_by weight xs) (take_while-cons (λ x. not (labels l x)) k ks) ∙ go (place_in-sum_by l (n + weight k) ks) (labels l k)
-  where
-    go : n + weight k + sum_by weight (before_label l ks) ≡ place_in l (n + weight k) ks → (b : Bool) → n + sum_by weight (cond (not b) (k ∷ before_label l ks) []) ≡ cond b n (place_in l (n + weight k) ks)
-    go rest true = omega arith
-    go rest false = omega (arith, sum_by-cons weight k (before_label l ks))
+module _ (ts : List Placed) (l i first n : ℕ) (h : Sought ts l i first n) (lt : i < length ts) (k : Kind) (e : k ≡ get_or (kinds_of ts) i bracket_opens) where
+  look : (b : Bool) → b ≡ labels l k → place_in l n (drop i (kinds_of ts)) ≡ cond b n (place_in l (n + weight k) (drop (i + 1) (kinds_of ts)))
+  look b g =
+      at_drop_more (place_in l n) (kinds_of ts) i bracket_opens (omega (arith, length_kinds ts))
+      ∙ ap (λ y. cond (labels l y) n (place_in l (n + weight y) (drop (i + 1) (kinds_of ts)))) (sym e)
+      ∙ ap (λ y. cond y n (place_in l (n + weight k) (drop (i + 1) (kinds_of ts)))) (sym g)
 
-pub before_label_small : (l : ℕ) (ks : List Kind) → sum_by weight (before_label l ks) ≤ length ks
-before_label_small l ks =
-    let p = λ (k : Kind). not (labels l k) in
-    omega (arith, total-sum_by (before_label l ks), total_small (before_label l ks), length-prefix_len p ks, prefix_len-le-length p ks)
+  pub found : true ≡ labels l k → n ≡ place_in l first (kinds_of ts)
+  found g = sym (look true g) ∙ h.same
+
+  pub sought_more : false ≡ labels l k → (w : ℕ) → w ≡ weight k → Sought ts l (i + 1) first (n + w)
+  sought_more g w f = record {
+    few = omega (arith, h.few, weight_small k);
+    same = ap (λ x. place_in l (n + x) (drop (i + 1) (kinds_of ts))) f ∙ sym (look false g) ∙ h.same;
+  }
+
+pub sought_all : (ts : List Placed) (l i first n : ℕ) → Sought ts l i first n → length ts ≤ i → n ≡ place_in l first (kinds_of ts)
+sought_all ts l i first n h le = sym (at_drop_all (place_in l n) (kinds_of ts) i (omega (arith, length_kinds ts))) ∙ h.same

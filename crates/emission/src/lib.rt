@@ -49,10 +49,14 @@ fn place_from(tokens: &[Placed], first: usize, label: u8) -> usize
     ensures place { result ≡ place_in label first (kinds_of tokens.now) }
     ensures most { result ≤ first + length tokens.now }
 {
-    let before = tokens
-        .iter()
-        .take_while(|placed| !placed.token.is_label(label));
-    first + before.map(|placed| weight_of(&placed.token)).sum::<usize>()
+    let mut place = first;
+    for placed in tokens {
+        if placed.token.is_label(label) {
+            return place;
+        }
+        place += weight_of(&placed.token);
+    }
+    place
 }
 
 // The instruction that a token makes at place `at`, if it makes one, where `behind` are the tokens behind it.

@@ -66,18 +66,21 @@ fn entry_of(word: &str) -> Result<Option<u16>, PlainFault<'_>> {
 }
 
 // The eight entries of a plain line, which blanks separate. Words behind the eighth are read too, since of two faults the bad
-// word is told and not the count; a `zip` of entries and words would pass them over.
+// word is told and not the count; a `zip` of entries and words would pass them over. They are counted in the same pass: to
+// split a long line is most of the work.
 fn entries_of(line: &str) -> Result<[Option<u16>; 8], PlainFault<'_>> {
     let mut entries = [None; 8];
-    for (i, word) in line.split_whitespace().enumerate() {
+    let mut count = 0usize;
+    for word in line.split_whitespace() {
         let entry = entry_of(word)?;
-        if let Some(place) = entries.get_mut(i) {
+        if let Some(place) = entries.get_mut(count) {
             *place = entry;
         }
+        count = count.saturating_add(1);
     }
-    match line.split_whitespace().count() {
+    match count {
         8 => Ok(entries),
-        count => Err(PlainFault::Count(count)),
+        _ => Err(PlainFault::Count(count)),
     }
 }
 

@@ -1,13 +1,18 @@
 -- One word more of a sweep over the panel. Assumes nothing.
-use Rattle.std.proofs.Common.{◌≡◌, ℕ, zero, suc, ◌+◌, ◌*◌, ◌%◌, ◌^◌, ◌<◌, ◌≤◌, Bool, true, false, cond, not, ltb, List, length, get_or, set, is_err, Ok, Err, Result, sym, refl, ap, ◌∙◌, ⊎_elim, add-one, arith}
+use Rattle.std.proofs.Common.{◌≡◌, ℕ, zero, suc, ◌+◌, ◌-◌, ◌*◌, ◌%◌, ◌^◌, ◌<◌, ◌≤◌, Bool, true, false, cond, not, ltb, List, length, get_or, set, is_err, Some, Ok, Err, Result, sym, refl, ap, ◌∙◌, ⊎_elim, add-one, arith}
 use Rattle.std.proofs.lemmas.List.{get_or-set_same, get_or-set_other, length-set}
-use Rattle.panel.specs.Meaning.{Meaning, with_output, after_put, after_puts, mask_of, placed}
+use Rattle.panel.specs.Meaning.{Meaning, with_output, after_put, first_silent, after_puts, mask_of, placed}
 use Rattle.std.proofs.lemmas.Bool.{cond-true, lt-ltb, true≢false, false≢true, cases_eq}
 use Rattle.panel.specs.declared.PanelFault.{PanelFault}
 use Rattle.panel.specs.declared.PanelFault.TheVariants.{Silent}
-use Rattle.panel.specs.Answers.{put_answer}
+use Rattle.panel.specs.Answers.{read_of, put_answer}
 use lib.Bits.{bit_or}
 use Rattle.std.proofs.lemmas.Nat.{or_comm, or_shifted, one_shl, pow-add}
+
+pub silent_answers : (a : List Bool) (k n : ℕ) → k < n → get_or a k false ≡ true → first_silent a k (n - k) ≡ first_silent a (k + 1) (n - (k + 1))
+silent_answers a k n h t =
+    let e : n - k ≡ suc (n - (k + 1)) = omega arith in
+    ap (first_silent a k) e ∙ ap (λ b. cond b (first_silent a (k + 1) (n - (k + 1))) (Some k)) t
 
 pub after_puts_more : (m : Meaning) (words : List ℕ) (k : ℕ) → after_puts m words (k + 1) ≡ after_put (after_puts m words k) k (get_or words k 0)
 after_puts_more m words k = ap (after_puts m words) (add-one k)
@@ -16,6 +21,13 @@ pub mask_more : (a : List Bool) (k : ℕ) → mask_of a (k + 1) ≡ mask_of a k 
 mask_more a k = ap (mask_of a) (add-one k)
 
 -- What an answer of a panel says of its meaning.
+
+ok_cond : (b : Bool) (w v : ℕ) (e : PanelFault) → Ok w ≡ cond b (Ok v) (Err e) → (b ≡ true) × (w ≡ v)
+ok_cond true w v e p = (refl, cc)
+ok_cond false w v e p = let z : ◌≡◌ {A = ℕ} 0 1 = cc in let no : ⊥ = omega arith in absurd no
+
+pub read_ok : (m : Meaning) (k w : ℕ) → k < 8 → Ok w ≡ read_of m k → (get_or m.input_answers k false ≡ true) × (w ≡ get_or m.inputs k 0)
+read_ok m k w h p = ok_cond (get_or m.input_answers k false) w (get_or m.inputs k 0) (Silent k) (p ∙ cond-true (ltb k 8) _ _ (lt-ltb k 8 h))
 
 err_not : {X : Type 0} (b : Bool) (v : X) (e : PanelFault) → is_err (cond b (Ok v) (Err e)) ≡ not b
 err_not true v e = refl

@@ -77,13 +77,15 @@ pub trait Panel {
     fn read(&mut self, word: u8) -> Result<u16, PanelFault>
         ensures answer { result ≡ read_of (meaning self.old) word }
         ensures after { meaning self.new ≡ meaning self.old }
-        ensures rest { rest self.new ≡ rest self.old };
+        ensures rest { rest self.new ≡ rest self.old }
+        ensures sized { Sized (meaning self.new) };
 
     fn put(&mut self, word: u8, value: u16) -> Result<(), PanelFault>
         ensures answer { result ≡ put_answer (meaning self.old) word }
         ensures after { meaning self.new ≡ after_put (meaning self.old) word value }
-        ensures rest { rest self.new ≡ rest self.old };
+        ensures rest { rest self.new ≡ rest self.old }
+        ensures sized { Sized (meaning self.new) };
 
-    // It has eight words of each kind.
+    // It has eight words of each kind. The clauses `sized` of the calls say so too, since behind a `dyn` there is no law.
     ghost sized: { (p : Self) → Sized (meaning p) };
 }

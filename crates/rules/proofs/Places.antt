@@ -1,12 +1,11 @@
 -- Places of a text: labels, calls, and the module of a token.
 use Rattle.std.proofs.Common.{get_or, not, ◌≡◌, ℕ, zero, suc, ◌+◌, ◌-◌, ◌<◌, ◌≤◌, Bool, true, false, ◌⊎◌, List, length, take, drop, Some, None, Decides, Option, sym, refl, ap, ◌∙◌, subst, inl, inr, arith}
-use Rattle.std.specs.Option.{option_or}
 use Rattle.std.proofs.lemmas.Bool.{both_ways, cases_lt, cases_eq}
 use Rattle.std.proofs.lemmas.List.{get_or_past, get_or-take, get_or-drop, length-take-le, length-drop}
 use Rattle.tokens.specs.Tokens.{Kind, bracket_opens, label, call, lexeme}
 use Rattle.reading.specs.declared.Placed.{Placed}
 use Rattle.grammar.specs.Verdict.{kinds_of}
-use Rattle.rules.specs.Findings.{NoneAt, Found}
+use Rattle.rules.specs.Findings.{NoneAt, First, Found}
 use Rattle.rules.specs.Labels.{kind_at, Labelled, Repeats, Astray, Unlinked}
 use Rattle.rules.specs.Levels.{after, home}
 use Rattle.rules.specs.Laws.{CallsGoDown, CallsLand, LastLabel, HomeIsLastLabel}
@@ -92,31 +91,29 @@ pub astray_inside : (ks : List Kind) (j : ℕ) → Astray ks j → j < length ks
 astray_inside ks j p = call_inside ks j p.0 p.1
 
 module _ (ks : List Kind) where
-  -- where both roots are there
-  pub linked : (r : Option ℕ) → Labelled ks 0 0 (length ks) → Labelled ks 1 0 (length ks) → Found (Astray ks) r → Found (Unlinked ks) r
-  linked None l₀ l₁ f = none
+  -- the first call that is astray comes before the end
+  pub astray_first : (r : Option ℕ) (i : ℕ) → r ≡ Some i → Found (Astray ks) r → Found (Unlinked ks) (Some i)
+  astray_first r i e f = first (subst (Found (Astray ks)) e f)
     where
-      none : NoneAt (Unlinked ks)
-      none j (inl p) = f j p
-      none j (inr p) = p.1 (l₀, l₁)
-  linked (Some i) l₀ l₁ f = (inl f.0, early)
-    where
-      early : (j : ℕ) → j < i → Unlinked ks j → ⊥
-      early j lt (inl p) = f.1 j lt p
-      early j lt (inr p) = p.1 (l₀, l₁)
+      first : First (Astray ks) i → First (Unlinked ks) i
+      first g = (inl g.0, early)
+        where
+          early : (j : ℕ) → j < i → Unlinked ks j → ⊥
+          early j lt (inl p) = g.1 j lt p
+          early j lt (inr p) = let in' = astray_inside ks i g.0 in omega (arith, p.0)
+
+  -- where no call is astray and both roots are there
+  pub linked : Labelled ks 0 0 (length ks) → Labelled ks 1 0 (length ks) → NoneAt (Astray ks) → NoneAt (Unlinked ks)
+  linked l₀ l₁ f j (inl p) = f j p
+  linked l₀ l₁ f j (inr p) = p.1 (l₀, l₁)
 
   -- where one is missing
-  pub rootless : (r : Option ℕ) → (Labelled ks 0 0 (length ks) × Labelled ks 1 0 (length ks) → ⊥) → Found (Astray ks) r → Found (Unlinked ks) (option_or r (Some (length ks)))
-  rootless None lacks f = (inr (refl, lacks), early)
+  pub rootless : (Labelled ks 0 0 (length ks) × Labelled ks 1 0 (length ks) → ⊥) → NoneAt (Astray ks) → First (Unlinked ks) (length ks)
+  rootless lacks f = (inr (refl, lacks), early)
     where
       early : (j : ℕ) → j < length ks → Unlinked ks j → ⊥
       early j lt (inl p) = f j p
       early j lt (inr p) = omega (arith, p.0)
-  rootless (Some i) lacks f = (inl f.0, early)
-    where
-      early : (j : ℕ) → j < i → Unlinked ks j → ⊥
-      early j lt (inl p) = f.1 j lt p
-      early j lt (inr p) = let in' = astray_inside ks i f.0 in omega (arith, p.0)
 
 -- causes 9 and 10 together
 pub downward : CallsGoDown

@@ -78,11 +78,13 @@ pub fn unlinked(tokens: &[Placed]) -> Option<usize>
     ensures land { CallsLand }
     ensures down { CallsGoDown }
 {
-    let astray = first_astray(tokens);
+    if let Some(i) = first_astray(tokens) {
+        return Some(i);
+    }
     if has_label(tokens, 0) && has_label(tokens, 1) {
-        astray
+        None
     } else {
-        astray.or(Some(tokens.len()))
+        Some(tokens.len())
     }
 }
 

@@ -65,17 +65,19 @@ fn place_past(place: Place, b: u8) -> Place
 fn mode_after(mode: Mode, place: Place, b: u8, ahead: Option<u8>) -> Option<Mode>
     ensures { result ≡ mode_after mode place b (unwrap_or ahead 0) }
 {
-    match (mode, b, ahead) {
-        (Mode::Between, b' ' | b'\t' | b'\n' | b'\r', _) => Some(Mode::Between),
-        (Mode::Between, b';', _) => Some(Mode::Line),
-        (Mode::Between, b'/', Some(b'*')) => Some(Mode::Opening(place)),
-        (Mode::Between, _, _) => None,
-        (Mode::Line, b'\n', _) => Some(Mode::Between),
-        (Mode::Line, _, _) => Some(Mode::Line),
-        (Mode::Opening(opened), _, _) => Some(Mode::Block(opened)),
-        (Mode::Block(_), b'*', Some(b'/')) => Some(Mode::Closing),
-        (Mode::Block(opened), _, _) => Some(Mode::Block(opened)),
-        (Mode::Closing, _, _) => Some(Mode::Between),
+    match mode {
+        Mode::Between => match (b, ahead) {
+            (b' ' | b'\t' | b'\n' | b'\r', _) => Some(Mode::Between),
+            (b';', _) => Some(Mode::Line),
+            (b'/', Some(b'*')) => Some(Mode::Opening(place)),
+            _ => None,
+        },
+        Mode::Line if b == b'\n' => Some(Mode::Between),
+        Mode::Line => Some(Mode::Line),
+        Mode::Opening(opened) => Some(Mode::Block(opened)),
+        Mode::Block(_) if b == b'*' && ahead == Some(b'/') => Some(Mode::Closing),
+        Mode::Block(opened) => Some(Mode::Block(opened)),
+        Mode::Closing => Some(Mode::Between),
     }
 }
 
@@ -93,8 +95,9 @@ fn ended(mode: Mode, here: Cursor) -> Result<Cursor, ScanFault>
 fn in_run(b: u8, ahead: Option<u8>) -> bool
     ensures { result ≡ in_run b (unwrap_or ahead 0) }
 {
-    match (b, ahead) {
-        (b'[' | b']' | b';', _) | (b'/', Some(b'*')) => false,
+    match b {
+        b'[' | b']' | b';' => false,
+        b'/' => ahead != Some(b'*'),
         _ => b.is_ascii_graphic(),
     }
 }

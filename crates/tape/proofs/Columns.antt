@@ -1,14 +1,12 @@
 -- Fields are read as they are written. Assumes nothing.
-use Rattle.std.proofs.Common.{◌≡◌, ℕ, zero, suc, ◌-◌, ◌<◌, ◌≤◌, Bool, true, false, not, cond, ◌||◌, eqb, ltb, List, [], ◌∷◌, ◌++◌, length, get_or, replicate, decimal, option_map, Some, None, Ok, Err, Option, Result, sym, refl, ap, ◌∙◌, ⊎_elim, arith, lit<}
-use Rattle.std.specs.Str.{IsUtf8, all_ascii_digits}
-use Rattle.std.specs.Str.Parse.{digits_value, ParsesUnsigned}
-use Rattle.std.specs.Result.{result_ok}
-use Rattle.std.proofs.lemmas.Fmt.{decimal_digit, decimal_nonempty, first_decimal, digits_decimal, digits_value-decimal, decimal-digits_value, length-decimal-le, IsAscii-from_digits}
-use Rattle.std.proofs.lemmas.Str.{IsUtf8-from_ascii}
-use Rattle.std.proofs.lemmas.Str.Parse.{IsNumeralModel, numerals_by_value, tells_all_ascii_digits, parse_plain}
+use Rattle.std.proofs.Common.{◌≡◌, ℕ, zero, suc, ◌-◌, ◌<◌, ◌≤◌, Bool, true, false, not, cond, ◌||◌, ◌&&◌, eqb, leb, ltb, List, [], ◌∷◌, ◌++◌, length, get_or, replicate, decimal, option_map, Some, None, Option, sym, refl, ap, ◌∙◌, ⊎_elim, arith, lit<}
+use Rattle.std.specs.Str.{all_ascii_digits}
+use Rattle.std.specs.Str.Parse.{digits_value}
+use Rattle.std.proofs.lemmas.Fmt.{decimal_digit, decimal_nonempty, first_decimal, digits_decimal, digits_value-decimal, decimal-digits_value, length-decimal-le}
+use Rattle.std.proofs.lemmas.Str.Parse.{IsNumeralModel, numerals_by_value, tells_all_ascii_digits}
 use Rattle.std.proofs.lemmas.List.{length-append, length-replicate}
 use Rattle.std.proofs.lemmas.Bool.{le-leb, lt-ltb, ltb-true, leb-true, ne_eqb, eq-eqb, eqb-true, cond_both, cond-true, cond-false, and_parts, and_from, false≢true, cases_Bool, cases_eq}
-use Rattle.tape.specs.Fields.{text_of, is_dash, is_numeral, numeral_of, field_of, stands, entry_of}
+use Rattle.tape.specs.Fields.{text_of, is_dash, is_numeral, value_of, numeral_of, field_of, stands, entry_of}
 use Rattle.tape.specs.Format.{Entry, number, silent, justified, field_bytes, Fits}
 
 own : IsNumeralModel (λ ds. all_ascii_digits ds ≡ true) (digits_value 10)
@@ -63,17 +61,23 @@ no_numeral text none =
 some_numeral : (text : List ℕ) → Numeral text → Some (digits_value 10 text) ≡ numeral_of text
 some_numeral text n = sym (cond-true (is_numeral text) (Some (digits_value 10 text)) None (numeral_is text n))
 
--- What `parse` gives of a text that is no numeral, and of one.
+-- What the value of digits is to a text that is no numeral, and to one.
 
-pub not_text : (text : List ℕ) → (IsUtf8 text → ⊥) → None ≡ numeral_of text
-not_text text invalid = sym (no_numeral text (λ n. invalid (IsUtf8-from_ascii text (IsAscii-from_digits text (own.to text n.digits)))))
+pub no_text : (text : List ℕ) → length text ≡ 0 → None ≡ numeral_of text
+no_text text none = sym (no_numeral text (λ n. let some = n.some in omega arith))
 
-pub parsed : {E : Type 0} (text : List ℕ) (r : Result ℕ E) → ParsesUnsigned 16 10 text r → (get_or text 0 0 ≡ 43 → ⊥) → (get_or text 0 0 ≡ 48 → length text ≤ 1) → result_ok r ≡ numeral_of text
-parsed {E = E} text (Ok x) p plus lead =
-    let q = parse_plain own {E = E} 16 text (Ok x) p plus in
-    ap Some q.1 ∙ some_numeral text (record { some = q.0.1; digits = q.0.0; lead = λ e. let short = lead e in let some = q.0.1 in omega arith; most = q.0.2 })
-parsed {E = E} text (Err e) p plus lead =
-    let q = parse_plain own {E = E} 16 text (Err e) p plus in sym (no_numeral text (λ n. q (n.digits, n.some, n.most)))
+pub leading_zero : (text : List ℕ) → get_or text 0 0 ≡ 48 → 1 < length text → None ≡ numeral_of text
+leading_zero text e more = sym (no_numeral text (λ n. let one = n.lead e in omega arith))
+
+pub by_value : (text : List ℕ) → 0 < length text → (get_or text 0 0 ≡ 48 → length text ≤ 1) → value_of text ≡ numeral_of text
+by_value text some lead =
+    let digits = all_ascii_digits text in
+    let front = not (eqb (get_or text 0 0) 48) || eqb (length text) 1 in
+    let most = leb (digits_value 10 text) 65535 in
+    let one : length text ≤ 1 → length text ≡ 1 = λ h. omega arith in
+    let e = lead_is (get_or text 0 0) (length text) (λ z. one (lead z)) in
+    ap (λ b. cond b (Some (digits_value 10 text)) None)
+    (sym (ap (λ b. b && (digits && (front && most))) (lt-ltb 0 (length text) some) ∙ ap (λ b. digits && (b && most)) e))
 
 -- What columns say, by the text behind their blanks.
 

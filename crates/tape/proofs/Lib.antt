@@ -1,4 +1,5 @@
 mod Columns
+mod Values
 mod Lines
 mod Pieces
 mod Tapes

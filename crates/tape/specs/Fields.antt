@@ -20,6 +20,10 @@ abbrev pub is_numeral : List ℕ → Bool
 is_numeral text =
     nat_lt 0 (length text) && (all_ascii_digits text && ((not (slice_index text 0 == 48) || length text == 1) && nat_le (digits_value 10 text) 65535))
 
+-- the number that digits write, if it is at most 65,535
+abbrev pub value_of : List ℕ → Option ℕ
+value_of text = cond (all_ascii_digits text && nat_le (digits_value 10 text) 65535) (Some (digits_value 10 text)) None
+
 abbrev pub numeral_of : List ℕ → Option ℕ
 numeral_of text = cond (is_numeral text) (Some (digits_value 10 text)) None
 
