@@ -6,5 +6,5 @@ use Rattle.scanning.proofs.scanner.Scanner.skip.Goals as goal
 pub returns-in_default-clause-is : goal.returns-in_default-clause-is
 returns-in_default-clause-is c = grind (arith, common_steps, skip_stops)
 
-pub loop-n-preserved : goal.loop-n-preserved
-loop-n-preserved c = grind (arith, common_steps, skip_more)
+pub loop-at-preserved : goal.loop-at-preserved
+loop-at-preserved c = grind (arith, common_steps, skip_more)
