@@ -1,5 +1,8 @@
 // The files of a command line, one after the other.
 ghost use Rattle.std.specs.Prelude.{◌≡◌, [], true, false, IfOk};
+ghost use Rattle.std.specs.List.{All};
+ghost use Rattle.std.specs.String.{string_bytes};
+ghost use Rattle.reporting.specs.Files.{IsWell};
 
 use std::fs::File;
 use std::io;
@@ -59,6 +62,9 @@ where
     F: Fn(Source<'_>) -> io::Result<bool>,
     requires { F.IsAlwaysCallable step }
     ensures no_file { files.now ≡ [] → IfOk result (λ well. well ≡ false) }
+
+    // All was well only if the step says so of each file.
+    ensures each { IfOk result (λ well. well ≡ true → All (λ file. IsWell (F.post step) (string_bytes file)) files.now) }
 {
     if files.is_empty() {
         eprintln!(rt; "kirlomp {command}: no file is given")?;

@@ -1,5 +1,7 @@
 // Where in a list a message points.
 ghost use Rattle.std.specs.Prelude.{◌≡◌, IfSome};
+ghost use Rattle.scanning.specs.Scan.{origin};
+ghost use Rattle.reporting.specs.Search.{FirstFrom, BeginsAt};
 
 use crate::excerpt::Marked;
 use crate::lines::{column_in, line_of};
@@ -17,7 +19,8 @@ pub struct Location<'a> {
 impl<'a> Location<'a> {
     // The word at the place; none at the end of the text.
     pub fn word(self) -> Option<Word<'a>>
-        ensures { IfSome result (λ w. w.place ≡ self.entry.place) }
+        ensures there { IfSome result (λ w. w.place ≡ self.entry.place) }
+        ensures first { FirstFrom (BeginsAt self.entry.place) self.entry.text.now origin result }
     {
         find_word(self.text, |word| word.place == self.place)
     }

@@ -1,5 +1,7 @@
 // What is wrong with a list, in plain words.
 ghost use Rattle.std.specs.Prelude.{true, IfSome};
+ghost use Rattle.scanning.specs.Scan.{origin};
+ghost use Rattle.reporting.specs.Search.{FirstFrom};
 
 use crate::excerpt::Excerpt;
 use crate::location::Location;
@@ -14,7 +16,8 @@ const SHOWN: usize = 40;
 // The first word of a text for which a test holds; none where the text cannot be read so far.
 pub fn find_word<'a, F: Fn(Word<'a>) -> bool>(text: &'a [u8], holds: F) -> Option<Word<'a>>
     requires { F.IsAlwaysCallable holds }
-    ensures { IfSome result (λ w. F.post holds w true) }
+    ensures met { IfSome result (λ w. F.post holds w true) }
+    ensures first { FirstFrom (F.post holds) text.now origin result }
 {
     let mut scanner = Scanner::new(text);
     while let Ok(Some(word)) = scanner.next_word() {
